@@ -1,0 +1,179 @@
+-- Nobody waits: a process that has entered and not crashed finishes by its own steps.
+use mathlib.Core.Path.{_≡_, refl, sym, ap, subst, _∙_}
+use mathlib.Core.Bool.{Bool, true, false, _&&_, false≢true}
+use mathlib.Core.List.{List, [], _∷_, _++_, append-assoc}
+use Prim.Native.Nat.{ℕ, zero, suc, _+_, _-_, _*_, _≤_}
+use native.Mathlib.Omega.{arith}
+use lib.ListN.{replicate, replicate-append-replicate}
+use borrow.Author.Tests.{eq-eqb}
+use Rattle.sets.specs.Sets.{tick}
+use Rattle.rules.specs.declared.Stage.{Stage}
+use Rattle.rules.specs.declared.Stage.the-variants.{Absent, Running, Finished, Crashed}
+use Rattle.rules.specs.declared.Machine.{Machine}
+use Rattle.rules.specs.State.{stageOf, entered, finished, crashed, accessesOf}
+use Rattle.rules.specs.Calls.{numberOf, accepted, fresh, stepOf, stepsOf, finishOf}
+use Rattle.rules.specs.Numbers.{lowest, crashLines}
+use Rattle.rules.specs.Statements.{Meets, Valid, FinishedAlone, RefusedAlone}
+use Rattle.rules.proofs.Laws.Small.{not-both}
+use Rattle.rules.proofs.Laws.Shape.{record-shaped}
+use Rattle.rules.proofs.Laws.Did.{what-calls-do, what-calls-did}
+use Rattle.rules.proofs.Laws.Numbers.{table-of-numbers}
+use Rattle.rules.proofs.Laws.Steps.{steps-on, steps-off}
+use Rattle.rules.proofs.Laws.Accesses.{accesses-of-calls}
+use Rattle.rules.proofs.Laws.Finishing.{finishing-alone}
+use Rattle.history.specs.Runs.{Call, steps, answer, after, from, runs, tally, stepOfTaken, acceptedSteps}
+use Rattle.history.specs.Theorems.{FinishesAlone, AloneFinishes, WaitFree}
+use Rattle.history.proofs.Appends.{from-append, tally-append}
+use Rattle.history.proofs.Moves.{meets-after, every-state-shaped, Stepped, writing, finding, ending, falling, stepped, by-call}
+use Rattle.history.proofs.Counts.{accesses-counted}
+use Rattle.history.proofs.Invariant.{Inv, inv-from, inv-runs}
+use Rattle.history.proofs.Answers.{answer-fine}
+
+-- Whoever has finished stays so.
+was-running : (m m′ : Machine) (p : ℕ) → Stepped m m′ p → finished (stageOf m p) ≡ false
+was-running m m′ p (writing x f was now) = ap finished was
+was-running m m′ p (finding x k f was lo hi now) = ap finished was
+was-running m m′ p (ending x f was e now) = ap finished was
+was-running m m′ p (falling x f was ne two now) = ap finished was
+
+stays : (n : ℕ) (m : Machine) → Meets n m → (p : ℕ) → 1 ≤ p → finished (stageOf m p) ≡ true → (c : Call) → finished (stageOf (after m c) p) ≡ true
+stays n m M p lp t =
+    by-call m (M .held) p lp (λ c. finished (stageOf (after m c) p) ≡ true)
+    (λ c e _ _. ap (λ P. finished (P .stage)) e ∙ t)
+    (λ v a. not-both (finished (stageOf m p)) t (ap finished (what-calls-did .enter m p v a .1 .was)))
+    (λ a. not-both (finished (stageOf m p)) t (was-running m (stepOf m p .machine) p (stepped m (M .held) p a)))
+    (λ a. not-both (finished (stageOf m p)) t (ap finished (what-calls-did .crash m p a .1 .was)))
+
+pub stays-from : (n : ℕ) (m : Machine) → Meets n m → (p : ℕ) → 1 ≤ p → finished (stageOf m p) ≡ true → (cs : List Call)
+    → finished (stageOf (from m cs) p) ≡ true
+unfolding from
+stays-from n m M p lp t [] = t
+stays-from n m M p lp t (c ∷ cs) = stays-from n (after m c) (meets-after n m M c) p lp (stays n m M p lp t c) cs
+
+-- Steps one after another are calls of a list.
+pub steps-calls : (k : ℕ) (m : Machine) (p : ℕ) → accepted (stepsOf k m p) ≡ true
+    → (stepsOf k m p .machine ≡ from m (replicate k (steps p))) × (tally (stepOfTaken p) m (replicate k (steps p)) ≡ k)
+unfolding stepsOf from tally
+steps-calls zero m p a = (refl, refl)
+steps-calls (suc k) m p a = go (accepted (stepOf m p)) refl (steps-calls k (stepOf m p .machine) p)
+  where
+    one : (t r : ℕ) → t ≡ 1 → r ≡ k → t + r ≡ suc k
+    one t r e q = omega arith
+
+    go : (b : Bool) → accepted (stepOf m p) ≡ b
+        → (accepted (stepsOf k (stepOf m p .machine) p) ≡ true
+        → (stepsOf k (stepOf m p .machine) p .machine ≡ from (stepOf m p .machine) (replicate k (steps p)))
+        × (tally (stepOfTaken p) (stepOf m p .machine) (replicate k (steps p)) ≡ k))
+        → (stepsOf (suc k) m p .machine ≡ from (stepOf m p .machine) (replicate k (steps p)))
+        × (tick (stepOfTaken p (steps p) (stepOf m p)) + tally (stepOfTaken p) (stepOf m p .machine) (replicate k (steps p)) ≡ suc k)
+    go true t further =
+        let r = further (sym (ap accepted (steps-on k m p t)) ∙ a) in (
+          ap (λ c. c .machine) (steps-on k m p t) ∙ r .0,
+          one _ _ (ap (λ b. tick (b && accepted (stepOf m p))) (eq-eqb p p refl) ∙ ap tick t) (r .1),
+        )
+    go false t further = absurd (false≢true (sym t ∙ sym (ap accepted (steps-off k m p t)) ∙ a))
+
+-- Finishing alone from any state that a run leaves.
+alone-taken : (m : Machine) → Inv m → (p : ℕ) → Valid m p → (x k f : ℕ) → stageOf m p ≡ Running x k f → accepted (finishOf m p) ≡ true
+alone-taken m I p ok x k f e = go (accepted (finishOf m p)) refl
+  where
+    no-line : lowest (crashLines m p) ≡ 0
+    no-line = sym (table-of-numbers .crash m p) ∙ ap (λ c. numberOf (c .answer)) (what-calls-do .crashes m p ok x k f e)
+
+    -- a refused one would end in a step that is refused with 7
+    never : RefusedAlone m p → ⊥
+    never r =
+        let s = steps-calls (r .steps) m p (r .made) in
+        answer-fine (from m (replicate (r .steps) (steps p))) (inv-from m I (replicate (r .steps) (steps p))) (steps p) .1
+        (ap (λ m′. numberOf (stepOf m′ p .answer)) (sym (s .0)) ∙ ap numberOf (r .next ∙ r .number))
+
+    go : (b : Bool) → accepted (finishOf m p) ≡ b → b ≡ true
+    go true a = refl
+    go false a = absurd (never (finishing-alone .refuses m (I .meets .held) p no-line a))
+
+pub alone-finishes : AloneFinishes
+alone-finishes n lo hi cs p lp hp came alive going = go (stageOf (runs n cs) p) refl came alive going
+  where
+    I : Inv (runs n cs)
+    I = inv-runs n lo hi cs
+
+    size : runs n cs .n ≡ n
+    size = every-state-shaped n lo hi cs .size
+
+    ok : Valid (runs n cs) p
+    ok = record { shape = record-shaped (runs n cs) (I .meets .shape); low = lp; high = subst (λ k. p ≤ k) (sym size) hp }
+
+    go : (s : Stage) → stageOf (runs n cs) p ≡ s → entered s ≡ true → crashed s ≡ false → finished s ≡ false → FinishesAlone n cs p
+    go Absent e a b c = absurd (false≢true a)
+    go (Finished x w) e a b c = absurd (false≢true (sym c))
+    go (Crashed x k f) e a b c = absurd (false≢true (sym b))
+    go (Running x k f) e a b c =
+        record {
+          taken = yes-taken;
+          more = more;
+          calls = left;
+          ended = subst (λ m. finished (stageOf m p) ≡ true) left (done .ended);
+          all = all;
+          most = most;
+        }
+      where
+        yes-taken : accepted (finishOf (runs n cs) p) ≡ true
+        yes-taken = alone-taken (runs n cs) I p ok x k f e
+
+        done : FinishedAlone (runs n cs) p
+        done = finishing-alone .accepts (runs n cs) (I .meets .held) p yes-taken
+
+        more : ℕ
+        more = accessesOf (runs n cs .n) (stageOf (finishOf (runs n cs) p .machine) p) - accessesOf (runs n cs .n) (stageOf (runs n cs) p)
+
+        ds : List Call
+        ds = replicate more (steps p)
+
+        as-calls : (stepsOf more (runs n cs) p .machine ≡ from (runs n cs) ds) × (tally (stepOfTaken p) (runs n cs) ds ≡ more)
+        as-calls = steps-calls more (runs n cs) p (ap accepted (done .steps) ∙ yes-taken)
+
+        left : finishOf (runs n cs) p .machine ≡ runs n (cs ++ ds)
+        left = sym (ap (λ c. c .machine) (done .steps)) ∙ as-calls .0 ∙ sym (from-append (fresh n) cs ds)
+
+        all : acceptedSteps n (cs ++ ds) p ≡ acceptedSteps n cs p + more
+        all = tally-append (stepOfTaken p) (fresh n) cs ds ∙ ap (λ k. acceptedSteps n cs p + k) (as-calls .1)
+
+        most : acceptedSteps n (cs ++ ds) p ≤ n * (n + 1)
+        most = subst (λ k. k ≤ n * (n + 1)) (accesses-counted n lo hi (cs ++ ds) p lp hp) bounded
+          where
+            M : Meets n (runs n (cs ++ ds))
+            M = every-state-shaped n lo hi (cs ++ ds)
+
+            bounded : accessesOf n (stageOf (runs n (cs ++ ds)) p) ≤ n * (n + 1)
+            bounded =
+                subst (λ k. accessesOf k (stageOf (runs n (cs ++ ds)) p) ≤ k * (k + 1)) (M .size)
+                (accesses-of-calls .most (runs n (cs ++ ds)) (M .shape) p lp (subst (λ k. p ≤ k) (sym (M .size)) hp))
+
+pub wait-free : WaitFree
+wait-free n lo hi cs p lp hp came alive k enough = go (finished (stageOf (runs n cs) p)) refl
+  where
+    -- once it has finished, further steps change nothing
+    after-all : (before rest : List Call) → finished (stageOf (runs n before) p) ≡ true → finished (stageOf (runs n (before ++ rest)) p) ≡ true
+    after-all before rest t =
+        subst (λ m. finished (stageOf m p) ≡ true) (sym (from-append (fresh n) before rest))
+        (stays-from n (runs n before) (every-state-shaped n lo hi before) p lp t rest)
+
+    go : (b : Bool) → finished (stageOf (runs n cs) p) ≡ b → finished (stageOf (runs n (cs ++ replicate k (steps p))) p) ≡ true
+    go true t = after-all cs (replicate k (steps p)) t
+    go false t =
+        subst (λ l. finished (stageOf (runs n l) p) ≡ true) joined
+        (after-all (cs ++ replicate (alone .more) (steps p)) (replicate (k - alone .more) (steps p)) (alone .ended))
+      where
+        alone : FinishesAlone n cs p
+        alone = alone-finishes n lo hi cs p lp hp came alive t
+
+        fits : alone .more + (k - alone .more) ≡ k
+        fits = room _ _ _ _ (alone .all) (alone .most) enough
+          where
+            room : (a b d most : ℕ) → a ≡ b + d → a ≤ most → most ≤ b + k → d + (k - d) ≡ k
+            room a b d most e le some = omega arith
+
+        joined : (cs ++ replicate (alone .more) (steps p)) ++ replicate (k - alone .more) (steps p) ≡ cs ++ replicate k (steps p)
+        joined =
+            append-assoc cs (replicate (alone .more) (steps p)) (replicate (k - alone .more) (steps p))
+            ∙ ap (λ l. cs ++ l) (replicate-append-replicate (alone .more) (k - alone .more) (steps p) ∙ ap (λ j. replicate j (steps p)) fits)

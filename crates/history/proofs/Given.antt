@@ -1,0 +1,56 @@
+-- The value of a process is the one that the list of calls gave it at its accepted enter.
+use mathlib.Core.Path.{_≡_, refl, sym, ap, _∙_}
+use mathlib.Core.Bool.{true, false, _&&_, cond}
+use mathlib.Core.List.{List, [], _∷_}
+use Prim.Native.Nat.{ℕ, _≤_}
+use borrow.Author.Tests.{eq-eqb}
+use Rattle.rules.specs.declared.Machine.{Machine}
+use Rattle.rules.specs.State.{stageOf, valueOf, entered}
+use Rattle.rules.specs.Calls.{accepted, fresh, enterOf, stepOf, crashOf}
+use Rattle.rules.specs.Statements.{Meets}
+use Rattle.rules.proofs.Laws.Small.{not-both}
+use Rattle.rules.proofs.Laws.Did.{what-calls-did}
+use Rattle.rules.proofs.Laws.Keeps.{every-state-meets}
+use Rattle.rules.proofs.Laws.Effects.{effects-of-calls}
+use Rattle.history.specs.Runs.{Call, enters, after, from, runs, gives, givenFrom, given}
+use Rattle.history.proofs.Moves.{nobody-yet, meets-after, stepped, by-call}
+use Rattle.history.proofs.Levels.{step-falls, crashed-entered}
+
+-- whoever has entered keeps its value
+keeps : (n : ℕ) (m : Machine) → Meets n m → (p : ℕ) → 1 ≤ p → entered (stageOf m p) ≡ true → (c : Call)
+    → (entered (stageOf (after m c) p) ≡ true) × (valueOf (after m c) p ≡ valueOf m p)
+keeps n m M p lp was =
+    by-call m (M .held) p lp (λ c. (entered (stageOf (after m c) p) ≡ true) × (valueOf (after m c) p ≡ valueOf m p))
+    (λ c e _ _. (ap (λ P. entered (P .stage)) e ∙ was, ap (λ P. P .value) e))
+    (λ v a. not-both (entered (stageOf m p)) was (ap entered (what-calls-did .enter m p v a .1 .was)))
+    (λ a. (step-falls m (stepOf m p .machine) p (stepped m (M .held) p a) .1, effects-of-calls .step m (M .held) p a .value))
+    (λ a. let e = effects-of-calls .crash m (M .held) p a in (crashed-entered (stageOf (crashOf m p .machine) p) (e .never-moves), e .value))
+
+pub kept-from : (n : ℕ) (m : Machine) → Meets n m → (p : ℕ) → 1 ≤ p → entered (stageOf m p) ≡ true → (cs : List Call)
+    → (entered (stageOf (from m cs) p) ≡ true) × (valueOf (from m cs) p ≡ valueOf m p)
+unfolding from
+kept-from n m M p lp was [] = (was, refl)
+kept-from n m M p lp was (c ∷ cs) =
+    let k = keeps n m M p lp was c in
+    let r = kept-from n (after m c) (meets-after n m M c) p lp (k .0) cs in
+    (r .0, r .1 ∙ k .1)
+
+given-from : (n : ℕ) (m : Machine) → Meets n m → (p : ℕ) → 1 ≤ p → p ≤ 32 → entered (stageOf m p) ≡ false → (cs : List Call)
+    → valueOf (from m cs) p ≡ givenFrom m cs p
+unfolding from givenFrom
+given-from n m M p lp hp none [] = M .shape .process p lp hp .absent none
+given-from n m M p lp hp none (c ∷ cs) =
+    by-call m (M .held) p lp (λ c. valueOf (from (after m c) cs) p ≡ gives m c p (givenFrom (after m c) cs p))
+    (λ c e _ o.
+    given-from n (after m c) (meets-after n m M c) p lp hp (ap (λ P. entered (P .stage)) e ∙ none) cs ∙ sym (o (givenFrom (after m c) cs p)))
+    (λ v a.
+    let e = effects-of-calls .enter m (M .held) p v a in
+    kept-from n (after m (enters p v)) (meets-after n m M (enters p v)) p lp (ap entered (e .stage)) cs .1 ∙ e .value
+    ∙ sym (ap (λ b. cond (b && accepted (enterOf m p v)) v (givenFrom (after m (enters p v)) cs p)) (eq-eqb p p refl)
+    ∙ ap (λ b. cond b v (givenFrom (after m (enters p v)) cs p)) a))
+    (λ a. not-both (entered (stageOf m p)) (step-falls m (stepOf m p .machine) p (stepped m (M .held) p a) .0) none)
+    (λ a. not-both (entered (stageOf m p)) (ap entered (what-calls-did .crash m p a .1 .was)) none) c
+
+pub value-given : (n : ℕ) → 1 ≤ n → n ≤ 32 → (cs : List Call) (p : ℕ) → 1 ≤ p → p ≤ 32 → valueOf (runs n cs) p ≡ given n cs p
+value-given n lo hi cs p lp hp =
+    given-from n (fresh n) (every-state-meets .starts n lo hi) p lp hp (ap (λ P. entered (P .stage)) (nobody-yet n p)) cs

@@ -1,0 +1,14 @@
+-- Proofs of specs/Theorems, by topic.
+pub mod Appends
+pub mod Moves
+pub mod Counts
+pub mod Found
+pub mod Figure
+pub mod Invariant
+pub mod Levels
+pub mod Answers
+pub mod Given
+pub mod Snapshot
+pub mod Alone
+pub mod Theorems
+pub mod Examples

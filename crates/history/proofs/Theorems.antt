@@ -1,0 +1,71 @@
+-- What specs/Theorems states, each under its own name.
+use Rattle.history.specs.Theorems.{StepIsFirstAccess, EnterIsStart, CrashIsEnd, ViewIsReturned, EveryStateShaped, NeverOneNorSeven}
+use Rattle.history.specs.Theorems.{AcceptedWhileAccesses, AtMostXReachX}
+use Rattle.history.specs.Theorems.{ReachedIsReaches, ThreeProperties, ThreePropertiesOfSets, ViewsAreGiven, ExactSteps, EnoughSteps}
+use Rattle.history.specs.Theorems.{AccessesCounted, WaitFree}
+use Rattle.history.specs.Theorems.{AloneFinishes, OverAppend, CountsOfRuns}
+use Rattle.history.proofs.Appends
+use Rattle.history.proofs.Moves
+use Rattle.history.proofs.Counts
+use Rattle.history.proofs.Figure
+use Rattle.history.proofs.Levels
+use Rattle.history.proofs.Answers
+use Rattle.history.proofs.Snapshot
+use Rattle.history.proofs.Alone
+
+pub step-is-first-access : StepIsFirstAccess
+step-is-first-access = Figure.step-is-first-access
+
+pub enter-is-start : EnterIsStart
+enter-is-start = Figure.enter-is-start
+
+pub crash-is-end : CrashIsEnd
+crash-is-end = Figure.crash-is-end
+
+pub view-is-returned : ViewIsReturned
+view-is-returned = Figure.view-is-returned
+
+pub every-state-shaped : EveryStateShaped
+every-state-shaped = Moves.every-state-shaped
+
+pub never-one-nor-seven : NeverOneNorSeven
+never-one-nor-seven = Answers.never-one-nor-seven
+
+pub accepted-while-accesses : AcceptedWhileAccesses
+accepted-while-accesses = Answers.accepted-while-accesses
+
+pub at-most-x-reach-x : AtMostXReachX
+at-most-x-reach-x = Levels.at-most-x-reach-x
+
+pub reached-is-reaches : ReachedIsReaches
+reached-is-reaches = Levels.reached-is-reaches
+
+pub three-properties : ThreeProperties
+three-properties = Snapshot.three-properties
+
+pub three-properties-of-sets : ThreePropertiesOfSets
+three-properties-of-sets = Snapshot.three-properties-of-sets
+
+pub views-are-given : ViewsAreGiven
+views-are-given = Snapshot.views-are-given
+
+pub exact-steps : ExactSteps
+exact-steps = Counts.exact-steps
+
+pub enough-steps : EnoughSteps
+enough-steps = Counts.enough-steps
+
+pub accesses-counted : AccessesCounted
+accesses-counted = Counts.accesses-counted
+
+pub wait-free : WaitFree
+wait-free = Alone.wait-free
+
+pub alone-finishes : AloneFinishes
+alone-finishes = Alone.alone-finishes
+
+pub over-append : OverAppend
+over-append = record { state = Appends.from-append; counts = Appends.tally-append }
+
+pub counts-of-runs : CountsOfRuns
+counts-of-runs = Counts.counts-of-runs

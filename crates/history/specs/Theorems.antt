@@ -1,0 +1,159 @@
+-- Demand 3, and the sentence of demand 2 on steps, as statements; proofs/Theorems proves each.
+use mathlib.Core.Path.{_≡_}
+use mathlib.Core.Logic.{_⊎_, _↔_, _≢_}
+use mathlib.Core.Bool.{Bool, true, false}
+use mathlib.Core.List.{List, _++_, List·Memᴰ}
+use Prim.Native.Nat.{ℕ, zero, suc, _+_, _-_, _*_, _≤_}
+use lib.ListN.{length, replicate}
+use Rattle.sets.specs.Sets.{has, count, within, size}
+use Rattle.sets.specs.Immediate.{Immediate}
+use Rattle.rules.specs.declared.Machine.{Machine}
+use Rattle.rules.specs.declared.Called.{Called}
+use Rattle.rules.specs.State.{processOf, stageOf, valueOf, entered, finished, crashed, foundOf, accessesOf}
+use Rattle.rules.specs.Shape.{Held, Shaped}
+use Rattle.rules.specs.Calls.{numberOf, accepted, fresh, enterOf, stepOf, crashOf, finishOf}
+use Rattle.rules.specs.Statements.{Meets}
+use Rattle.history.specs.Runs.{Call, steps, answer, from, runs, tally, acceptedSteps, allSteps, acceptedCalls, refusedCalls, reached}
+use Rattle.history.specs.Runs.{Reaches, given}
+use Rattle.history.specs.Figure.{Pair, returns, halted, update-snapshot, accesses, registersAfter, remains, register, programOf}
+use Rattle.history.specs.Views.{Has, View}
+
+-- Demand 2: "An accepted step makes one register access and leaves the machine as the published recursive algorithm does." Of any well shaped
+-- state that the declared types hold, whether a run leaves it or not; m′ is what the step of process p leaves of m.
+pub record FirstAccess (m m′ : Machine) (p : ℕ) : Type 0 where
+  pub size : m′ .n ≡ m .n
+  -- the program of p begins with an access, which is made on the registers as they stand,
+  pub one : accesses (programOf m p) ≡ true
+  pub registers : (y j : ℕ) → 1 ≤ y → y ≤ 32 → 1 ≤ j → j ≤ 32 → register m′ y j ≡ registersAfter (register m) (programOf m p) y j
+  -- and what remains of the program is left to p;
+  pub rest : programOf m′ p ≡ remains (register m) (programOf m p)
+  pub value : valueOf m′ p ≡ valueOf m p
+  -- the others are as they were, and so is what they have yet to do
+  pub others : (q : ℕ) → 1 ≤ q → q ≢ p → processOf m′ q ≡ processOf m q
+  pub programs : (q : ℕ) → 1 ≤ q → q ≤ 32 → q ≢ p → programOf m′ q ≡ programOf m q
+
+abbrev pub StepIsFirstAccess : Type 0
+StepIsFirstAccess = (m : Machine) → Held m → (p : ℕ) → accepted (stepOf m p) ≡ true → FirstAccess m (stepOf m p .machine) p
+
+-- An enter and a crash make no access.
+pub record NoAccess (m m′ : Machine) (p : ℕ) : Type 0 where
+  pub size : m′ .n ≡ m .n
+  pub registers : (y j : ℕ) → register m′ y j ≡ register m y j
+  pub others : (q : ℕ) → 1 ≤ q → q ≢ p → processOf m′ q ≡ processOf m q
+  pub programs : (q : ℕ) → 1 ≤ q → q ≢ p → programOf m′ q ≡ programOf m q
+
+-- An accepted enter puts the process at the start of the figure, line 1; a crashed one does nothing more.
+abbrev pub EnterIsStart : Type 0
+EnterIsStart = (m : Machine) → Held m → (p v : ℕ) → accepted (enterOf m p v) ≡ true
+    → (programOf (enterOf m p v .machine) p ≡ update-snapshot (m .n) p v) × NoAccess m (enterOf m p v .machine) p
+
+abbrev pub CrashIsEnd : Type 0
+CrashIsEnd = (m : Machine) → Held m → (p : ℕ) → accepted (crashOf m p) ≡ true
+    → (programOf (crashOf m p .machine) p ≡ halted) × NoAccess m (crashOf m p .machine) p
+
+-- The view of a finished process is the list of pairs that the figure returns.
+pub record Returned (m : Machine) (p : ℕ) : Type 0 where
+  pub list : List Pair
+  pub returned : programOf m p ≡ returns list
+  pub count : length list ≡ size (foundOf (stageOf m p))
+  pub pairs : (j v : ℕ) → View m p j v ↔ List·Memᴰ (record { process = j; value = v }) list
+
+abbrev pub ViewIsReturned : Type 0
+ViewIsReturned = (m : Machine) → Shaped m → (p : ℕ) → Has m p → Returned m p
+
+-- Demand 3: "Take any list of enters, steps and crashes from a fresh machine of n tasks, refused calls among them."
+abbrev pub OfEveryRun : (ℕ → List Call → Type 0) → Type 0
+OfEveryRun P = (n : ℕ) → 1 ≤ n → n ≤ 32 → (cs : List Call) → P n cs
+
+-- Document 01: "Every state that a run leaves meets it."
+abbrev pub EveryStateShaped : Type 0
+EveryStateShaped = OfEveryRun λ n cs. Meets n (runs n cs)
+
+-- Document 01: "so no run is refused with 1"; "Refusal 7 comes only from a state that no run reaches".
+pub record NeitherOneNorSeven (n : ℕ) (cs : List Call) : Type 0 where
+  pub one : (c : Call) → numberOf (answer (runs n cs) c .answer) ≢ 1
+  pub seven : (c : Call) → numberOf (answer (runs n cs) c .answer) ≢ 7
+
+abbrev pub NeverOneNorSeven : Type 0
+NeverOneNorSeven = OfEveryRun NeitherOneNorSeven
+
+-- In a run a step is accepted exactly while the figure has an access left for the process.
+abbrev pub AcceptedWhileAccesses : Type 0
+AcceptedWhileAccesses = OfEveryRun λ n cs. (p : ℕ) → 1 ≤ p → p ≤ n → accepted (stepOf (runs n cs) p) ≡ accesses (programOf (runs n cs) p)
+
+-- "For each x from 1 to n, at most x tasks ever reach level x."
+abbrev pub AtMostXReachX : Type 0
+AtMostXReachX = OfEveryRun λ n cs. (x : ℕ) → 1 ≤ x → x ≤ n → count (reached n cs x) n ≤ x
+
+-- `reached` is what it says: after some prefix of the list the process is at that level.
+abbrev pub ReachedIsReaches : Type 0
+ReachedIsReaches = (n : ℕ) (cs : List Call) (x p : ℕ) → (reached n cs x p ≡ true) ↔ Reaches (fresh n) cs x p
+
+-- "The lists of all finished tasks obey the three properties": self-inclusion, containment, simultaneity.
+abbrev pub ThreeProperties : Type 0
+ThreeProperties = OfEveryRun λ n cs. Immediate (Has (runs n cs)) (View (runs n cs)) (given n cs)
+
+-- The same of the sets of processes alone, as the machine holds them.
+pub record OfSets (m : Machine) : Type 0 where
+  pub self-inclusion : (i : ℕ) → Has m i → has (foundOf (stageOf m i)) i ≡ true
+  pub containment : (i j : ℕ) → Has m i → Has m j
+      → (within (foundOf (stageOf m i)) (foundOf (stageOf m j)) ≡ true) ⊎ (within (foundOf (stageOf m j)) (foundOf (stageOf m i)) ≡ true)
+  pub simultaneity : (i j : ℕ) → Has m i → Has m j
+      → has (foundOf (stageOf m i)) j ≡ true
+      → has (foundOf (stageOf m j)) i ≡ true
+      → foundOf (stageOf m i) ≡ foundOf (stageOf m j)
+
+abbrev pub ThreePropertiesOfSets : Type 0
+ThreePropertiesOfSets = OfEveryRun λ n cs. OfSets (runs n cs)
+
+-- Every pair (j, v) in a list is one that j was given at its accepted enter.
+abbrev pub ViewsAreGiven : Type 0
+ViewsAreGiven = OfEveryRun λ n cs. (i j v : ℕ) → Has (runs n cs) i → View (runs n cs) i j v → v ≡ given n cs j
+
+-- "A task that finished with s tasks in its list has had exactly (n+1)(n-s+1) accepted steps, counted from the list of calls,"
+abbrev pub ExactSteps : Type 0
+ExactSteps = OfEveryRun λ n cs. (p : ℕ) → Has (runs n cs) p → acceptedSteps n cs p ≡ (n + 1) * (n - size (foundOf (stageOf (runs n cs) p)) + 1)
+
+-- "and any task that has had n(n+1) accepted steps is finished."
+abbrev pub EnoughSteps : Type 0
+EnoughSteps = OfEveryRun λ n cs. (p : ℕ) → 1 ≤ p → p ≤ n → n * (n + 1) ≤ acceptedSteps n cs p → finished (stageOf (runs n cs) p) ≡ true
+
+-- Rule 7 of document 01 is what the list of calls counts.
+abbrev pub AccessesCounted : Type 0
+AccessesCounted = OfEveryRun λ n cs. (p : ℕ) → 1 ≤ p → p ≤ n → accessesOf n (stageOf (runs n cs) p) ≡ acceptedSteps n cs p
+
+-- "Nobody waits." From any run, a process that has entered and not crashed finishes by k more steps of its own, whatever the others did, as soon as
+-- those that it has had and k come to n(n+1).
+abbrev pub WaitFree : Type 0
+WaitFree = OfEveryRun λ n cs. (p : ℕ) → 1 ≤ p → p ≤ n → entered (stageOf (runs n cs) p) ≡ true → crashed (stageOf (runs n cs) p) ≡ false
+    → (k : ℕ) → n * (n + 1) ≤ acceptedSteps n cs p + k → finished (stageOf (runs n (cs ++ replicate k (steps p))) p) ≡ true
+
+-- And if it has not finished, finishing alone is accepted; it is `more` accepted steps of p at the end of the list, at most n(n+1) in all.
+pub record FinishesAlone (n : ℕ) (cs : List Call) (p : ℕ) : Type 0 where
+  pub taken : accepted (finishOf (runs n cs) p) ≡ true
+  pub more : ℕ
+  pub calls : finishOf (runs n cs) p .machine ≡ runs n (cs ++ replicate more (steps p))
+  pub ended : finished (stageOf (runs n (cs ++ replicate more (steps p))) p) ≡ true
+  pub all : acceptedSteps n (cs ++ replicate more (steps p)) p ≡ acceptedSteps n cs p + more
+  pub most : acceptedSteps n (cs ++ replicate more (steps p)) p ≤ n * (n + 1)
+
+abbrev pub AloneFinishes : Type 0
+AloneFinishes = OfEveryRun λ n cs. (p : ℕ) → 1 ≤ p → p ≤ n → entered (stageOf (runs n cs) p) ≡ true → crashed (stageOf (runs n cs) p) ≡ false
+    → finished (stageOf (runs n cs) p) ≡ false → FinishesAlone n cs p
+
+-- One list after another: the state that they leave, and what is counted of them.
+pub record OverAppend : Type 0 where
+  pub state : (m : Machine) (cs ds : List Call) → from m (cs ++ ds) ≡ from (from m cs) ds
+  pub counts : (test : Call → Called → Bool) (m : Machine) (cs ds : List Call) → tally test m (cs ++ ds) ≡ tally test m cs + tally test (from m cs) ds
+
+-- A call is accepted or refused; the accepted steps are those of the processes 1 to n.
+unfoldable pub total : (ℕ → ℕ) → ℕ → ℕ
+total f zero = 0
+total f (suc k) = f (suc k) + total f k
+
+pub record CountsAgree (n : ℕ) (cs : List Call) : Type 0 where
+  pub calls : acceptedCalls n cs + refusedCalls n cs ≡ length cs
+  pub steps : allSteps n cs ≡ total (acceptedSteps n cs) n
+
+abbrev pub CountsOfRuns : Type 0
+CountsOfRuns = OfEveryRun CountsAgree

@@ -1,0 +1,6 @@
+-- What belongs to no one function.
+pub mod Tests
+pub mod Typed
+pub mod Values
+pub mod Descent
+pub mod Determined

@@ -1,0 +1,2 @@
+-- What the calls compute on their way.
+pub mod After

@@ -1,0 +1,460 @@
+// The calls of the machine of document 01: one one-shot immediate snapshot for n processes, one register access at a time.
+mod alone;
+
+use rules::Answer;
+use rules::Called;
+use rules::Landing;
+use rules::Machine;
+use rules::Process;
+use rules::Sight;
+use rules::Stage;
+use rules::Standing;
+ghost use mathlib.Core.Path.{_≡_};
+ghost use mathlib.Core.Bool.{_&&_, cond};
+ghost use Prim.Native.Nat.{_+_, _-_, _*_, _≤_};
+ghost use lib.Dec.{leb};
+ghost use Rattle.sets.specs.Sets.{has};
+ghost use Rattle.rules.specs.Shape.{shaped};
+ghost use Rattle.machine.specs.After.{afterRead};
+ghost use Rattle.rules.specs.Calls.{newOf, fresh, enterOf, crashOf, stepOf, reading, finishOf, lookOf, blindly, rowValues};
+
+// A machine of n processes, none of which has entered.
+fn fresh(n: u32) -> Machine
+    ensures { λ r. ⌜ r ≡ fresh n ⌝ }
+{
+    Machine {
+        n,
+        filled: [0; 32],
+        values: [0; 1024],
+        processes: [Process {
+            stage: Stage::Absent,
+            value: 0,
+        }; 32],
+    }
+}
+
+// A new machine of n processes; 8 outside 1 to 32.
+pub fn new(n: u32) -> Called
+    ensures { λ r. ⌜ r ≡ newOf n ⌝ }
+{
+    if n < 1 {
+        return Called {
+            answer: Answer::OutOfRange,
+            machine: fresh(1),
+        };
+    }
+    if 32 < n {
+        return Called {
+            answer: Answer::OutOfRange,
+            machine: fresh(1),
+        };
+    }
+    Called {
+        answer: Answer::Done,
+        machine: fresh(n),
+    }
+}
+
+// The machine is well shaped (document 01, "A state is well shaped if ..").
+pub fn shaped(m: Machine) -> bool
+    ensures { λ r. ⌜ r ≡ shaped m ⌝ }
+{
+    let processes = m.processes;
+    shape::shaped(m.n, &m.filled, &m.values, processes)
+}
+
+fn in_range(p: u32, n: u32) -> bool
+    ensures { λ r. ⌜ r ≡ (leb 1 p && leb p n) ⌝ }
+{
+    if p < 1 {
+        return false;
+    }
+    p <= n
+}
+
+// Process p enters with value v (rule 3); refuses 1, 2, 3.
+pub fn enter(mut m: Machine, p: u32, v: u32) -> Called
+    ensures { λ r. ⌜ r ≡ enterOf m p v ⌝ }
+{
+    let n = m.n;
+    let processes = m.processes;
+    if !shape::shaped(n, &m.filled, &m.values, processes) {
+        return Called {
+            answer: Answer::NotShaped,
+            machine: m,
+        };
+    }
+    if !in_range(p, n) {
+        return Called {
+            answer: Answer::NoProcess,
+            machine: m,
+        };
+    }
+    let at = (p - 1) as usize;
+    let process = processes[at];
+    let stage = process.stage;
+    match stage {
+        Stage::Absent => {
+            m.processes[at] = Process {
+                stage: Stage::Running {
+                    level: n,
+                    made: 0,
+                    found: 0,
+                },
+                value: v,
+            };
+            Called {
+                answer: Answer::Done,
+                machine: m,
+            }
+        }
+        Stage::Running {
+            level: _,
+            made: _,
+            found: _,
+        } => Called {
+            answer: Answer::EnteredBefore,
+            machine: m,
+        },
+        Stage::Finished { level: _, view: _ } => Called {
+            answer: Answer::EnteredBefore,
+            machine: m,
+        },
+        Stage::Crashed {
+            level: _,
+            made: _,
+            found: _,
+        } => Called {
+            answer: Answer::EnteredBefore,
+            machine: m,
+        },
+    }
+}
+
+// Process p crashes where it stands (rule 6); refuses 1, 2, 4, 5, 6.
+pub fn crash(mut m: Machine, p: u32) -> Called
+    ensures { λ r. ⌜ r ≡ crashOf m p ⌝ }
+{
+    let n = m.n;
+    let processes = m.processes;
+    if !shape::shaped(n, &m.filled, &m.values, processes) {
+        return Called {
+            answer: Answer::NotShaped,
+            machine: m,
+        };
+    }
+    if !in_range(p, n) {
+        return Called {
+            answer: Answer::NoProcess,
+            machine: m,
+        };
+    }
+    let at = (p - 1) as usize;
+    let process = processes[at];
+    let stage = process.stage;
+    match stage {
+        Stage::Absent => Called {
+            answer: Answer::NeverEntered,
+            machine: m,
+        },
+        Stage::Running { level, made, found } => {
+            m.processes[at] = Process {
+                stage: Stage::Crashed { level, made, found },
+                value: process.value,
+            };
+            Called {
+                answer: Answer::Done,
+                machine: m,
+            }
+        }
+        Stage::Finished { level: _, view: _ } => Called {
+            answer: Answer::HasFinished,
+            machine: m,
+        },
+        Stage::Crashed {
+            level: _,
+            made: _,
+            found: _,
+        } => Called {
+            answer: Answer::HasCrashed,
+            machine: m,
+        },
+    }
+}
+
+// Where a read leads: to a stage, or nowhere.
+pub enum Next {
+    To(Stage),
+    Nowhere,
+}
+
+// The read of register `made` in a row whose filled registers are `row` (rules 4 and 5).
+fn after_read(n: u32, row: u32, level: u32, made: u32, found: u32) -> Next
+    requires { ⌜ 1 ≤ level ⌝ }
+    ensures { λ r. ⌜ r ≡ afterRead n row level made found ⌝ }
+{
+    let seen = read(row, made, found);
+    if made < n {
+        return Next::To(Stage::Running {
+            level,
+            made: made + 1,
+            found: seen,
+        });
+    }
+    if u32::count_ones(seen) == level {
+        return Next::To(Stage::Finished { level, view: seen });
+    }
+    if level == 1 {
+        return Next::Nowhere;
+    }
+    Next::To(Stage::Running {
+        level: level - 1,
+        made: 0,
+        found: 0,
+    })
+}
+
+// A read finds what stands there at that step (rule 4).
+fn read(row: u32, j: u32, found: u32) -> u32
+    ensures { λ r. ⌜ r ≡ reading row j found ⌝ }
+{
+    if sets::has(row, j) {
+        return sets::plus(found, j);
+    }
+    found
+}
+
+// One register access of process p (rules 4 and 5); refuses 1, 2, 4, 5, 6, 7.
+pub fn step(mut m: Machine, p: u32) -> Called
+    ensures { λ r. ⌜ r ≡ stepOf m p ⌝ }
+{
+    let n = m.n;
+    let processes = m.processes;
+    if !shape::shaped(n, &m.filled, &m.values, processes) {
+        return Called {
+            answer: Answer::NotShaped,
+            machine: m,
+        };
+    }
+    if !in_range(p, n) {
+        return Called {
+            answer: Answer::NoProcess,
+            machine: m,
+        };
+    }
+    let at = (p - 1) as usize;
+    let process = processes[at];
+    let stage = process.stage;
+    let value = process.value;
+    match stage {
+        Stage::Absent => Called {
+            answer: Answer::NeverEntered,
+            machine: m,
+        },
+        Stage::Running { level, made, found } => {
+            let row = (level - 1) as usize;
+            let filled = m.filled[row];
+            if made == 0 {
+                m.filled[row] = sets::plus(filled, p);
+                m.values[32 * row + at] = value;
+                m.processes[at] = Process {
+                    stage: Stage::Running {
+                        level,
+                        made: 1,
+                        found,
+                    },
+                    value,
+                };
+                return Called {
+                    answer: Answer::Done,
+                    machine: m,
+                };
+            }
+            let next = after_read(n, filled, level, made, found);
+            match next {
+                Next::To(to) => {
+                    m.processes[at] = Process { stage: to, value };
+                    Called {
+                        answer: Answer::Done,
+                        machine: m,
+                    }
+                }
+                Next::Nowhere => Called {
+                    answer: Answer::NotAlone,
+                    machine: m,
+                },
+            }
+        }
+        Stage::Finished { level: _, view: _ } => Called {
+            answer: Answer::HasFinished,
+            machine: m,
+        },
+        Stage::Crashed {
+            level: _,
+            made: _,
+            found: _,
+        } => Called {
+            answer: Answer::HasCrashed,
+            machine: m,
+        },
+    }
+}
+
+// Process p's own steps until it finishes (rule 8); refuses as its first refused step would, the state as at entry.
+pub fn finish(m: Machine, p: u32) -> Called
+    ensures { λ r. ⌜ r ≡ finishOf m p ⌝ }
+{
+    let n = m.n;
+    let processes = m.processes;
+    if !shape::shaped(n, &m.filled, &m.values, processes) {
+        return Called {
+            answer: Answer::NotShaped,
+            machine: m,
+        };
+    }
+    if !in_range(p, n) {
+        return Called {
+            answer: Answer::NoProcess,
+            machine: m,
+        };
+    }
+    let at = (p - 1) as usize;
+    let process = processes[at];
+    let stage = process.stage;
+    let value = process.value;
+    match stage {
+        Stage::Absent => Called {
+            answer: Answer::NeverEntered,
+            machine: m,
+        },
+        Stage::Running { level, made, found } => {
+            let end = alone::descend(&m.filled, p, level, made, found);
+            match end {
+                Landing::Lands { level: low, view } => {
+                    let top = alone::top_row(level, made);
+                    let mut next = alone::fill_down(m, p, value, top, low);
+                    next.processes[at] = Process {
+                        stage: Stage::Finished { level: low, view },
+                        value,
+                    };
+                    Called {
+                        answer: Answer::Done,
+                        machine: next,
+                    }
+                }
+                Landing::Stuck => Called {
+                    answer: Answer::NotAlone,
+                    machine: m,
+                },
+            }
+        }
+        Stage::Finished { level: _, view: _ } => Called {
+            answer: Answer::HasFinished,
+            machine: m,
+        },
+        Stage::Crashed {
+            level: _,
+            made: _,
+            found: _,
+        } => Called {
+            answer: Answer::HasCrashed,
+            machine: m,
+        },
+    }
+}
+
+// A look that shows no view.
+fn blind(answer: Answer, standing: Standing, level: u32, accesses: u32) -> Sight
+    ensures { λ r. ⌜ r ≡ blindly answer standing level accesses ⌝ }
+{
+    Sight {
+        answer,
+        standing,
+        level,
+        accesses,
+        view: 0,
+        values: [0; 32],
+    }
+}
+
+// Rule 7.
+fn accesses(n: u32, level: u32, made: u32) -> u32
+    requires { ⌜ (n ≤ 32) × (level ≤ n) × (made ≤ n + 1) ⌝ }
+    ensures { λ r. ⌜ r ≡ (n + 1) * (n - level) + made ⌝ }
+{
+    (n + 1) * (n - level) + made
+}
+
+fn kept(view: u32, i: u32, value: u32) -> u32
+    ensures { λ r. ⌜ r ≡ cond (has view i) value 0 ⌝ }
+{
+    if sets::has(view, i) {
+        return value;
+    }
+    0
+}
+
+// The values of a view, out of the row of its level.
+fn view_values(values: &[u32; 1024], level: u32, view: u32) -> [u32; 32]
+    requires { ⌜ (1 ≤ level) × (level ≤ 32) ⌝ }
+    ensures { λ r. ⌜ r ≡ rowValues (now (values .entry)) level view 1 32 ⌝ }
+{
+    let base = (32 * (level - 1)) as usize;
+    let mut out = [0u32; 32];
+    for i in 0..32usize {
+        out[i] = kept(view, (i + 1) as u32, values[base + i]);
+    }
+    out
+}
+
+// What a process's record says, and its view; refuses 1, 2.
+pub fn look(m: Machine, p: u32) -> Sight
+    ensures { λ r. ⌜ r ≡ lookOf m p ⌝ }
+{
+    let n = m.n;
+    let processes = m.processes;
+    if !shape::shaped(n, &m.filled, &m.values, processes) {
+        return blind(Answer::NotShaped, Standing::Absent, 0, 0);
+    }
+    if !in_range(p, n) {
+        return blind(Answer::NoProcess, Standing::Absent, 0, 0);
+    }
+    let at = (p - 1) as usize;
+    let process = processes[at];
+    let stage = process.stage;
+    match stage {
+        Stage::Absent => blind(Answer::Done, Standing::Absent, 0, 0),
+        Stage::Running {
+            level,
+            made,
+            found: _,
+        } => blind(
+            Answer::Done,
+            Standing::Running,
+            level,
+            accesses(n, level, made),
+        ),
+        Stage::Finished { level, view } => {
+            let values = view_values(&m.values, level, view);
+            let made = accesses(n, level, n + 1);
+            Sight {
+                answer: Answer::Done,
+                standing: Standing::Finished,
+                level,
+                accesses: made,
+                view,
+                values,
+            }
+        }
+        Stage::Crashed {
+            level,
+            made,
+            found: _,
+        } => blind(
+            Answer::Done,
+            Standing::Crashed,
+            level,
+            accesses(n, level, made),
+        ),
+    }
+}

@@ -1,0 +1,229 @@
+-- Document 01's table of numbers: each call answers with the first of its lines that applies.
+use mathlib.Core.Path.{_≡_, refl, sym, ap, subst, _∙_}
+use mathlib.Core.Logic.{_⊎_, inl, inr, _≢_}
+use mathlib.Core.Bool.{Bool, true, false, not, _&&_, cond, false≢true}
+use mathlib.Core.List.{List, [], _∷_, _++_}
+use Prim.Native.Nat.{ℕ, _≤_, _<_}
+use native.Mathlib.Omega.{arith}
+use lib.Dec.{leb, eqb}
+use borrow.Author.Tests.{leb-true, eq-eqb, ne-eqb}
+use Rattle.sets.specs.Sets.{size}
+use Rattle.rules.specs.declared.Stage.{Stage}
+use Rattle.rules.specs.declared.Stage.the-variants.{Absent, Running, Finished, Crashed}
+use Rattle.rules.specs.declared.Machine.{Machine}
+use Rattle.rules.specs.declared.Answer.the-variants.{NotShaped, NoProcess, NotAlone, OutOfRange}
+use Rattle.rules.specs.State.{stageOf, rowOf, entered, finished, crashed}
+use Rattle.rules.specs.Shape.{Going, shaped}
+use Rattle.rules.specs.Calls.{numberOf, done, refused, fresh, newOf, enterAt, enterOf, crashAt, crashOf, reading, settle, access, stepAt}
+use Rattle.rules.specs.Calls.{stepOf, finishAt, finishOf, looked, unseen, lookOf}
+use Rattle.rules.specs.Numbers.{Line, when, lowest, lastOfMany, always, enterLines, crashLines, stepLines}
+use Rattle.rules.specs.Statements.{none, numbered, Given, LowestIsGiven, TableOfNumbers}
+use Rattle.rules.proofs.Laws.Small.{both, and-first, and-second, equal-or-not}
+use Rattle.rules.proofs.Laws.Did.{running, access-write, access-read, access-last, settle-finish, settle-fall, settle-stick}
+
+-- The law of the table.
+later : (k : ℕ) (l : Line) (ls : List Line) → l .applies ≡ false → Given k ls → Given k (l ∷ ls)
+later k l ls no-line g =
+    record {
+      before = l ∷ g .before;
+      line = g .line;
+      after = g .after;
+      all = ap (λ r. l ∷ r) (g .all);
+      number = g .number;
+      applies = g .applies;
+      earlier = both (not (l .applies)) (none (g .before)) (ap not no-line) (g .earlier);
+    }
+
+lowest-given : (k : ℕ) → k ≢ 0 → (ls : List Line) → lowest ls ≡ k → Given k ls
+unfolding lowest
+lowest-given k ne [] e = absurd (ne (sym e))
+lowest-given k ne (l ∷ ls) e = go (l .applies) refl (lowest-given k ne ls) e
+  where
+    go : (b : Bool) → l .applies ≡ b → (lowest ls ≡ k → Given k ls) → (elim b as (λ _. ℕ) [ true ↦ l .number | false ↦ lowest ls ]) ≡ k
+        → Given k (l ∷ ls)
+    go true a rest q = record { before = []; line = l; after = ls; all = refl; number = q; applies = a; earlier = refl }
+    go false a rest q = later k l ls a (rest q)
+
+skip : (before ls : List Line) → none before ≡ true → lowest (before ++ ls) ≡ lowest ls
+unfolding lowest
+skip [] ls n = refl
+skip (l ∷ before) ls n = go (l .applies) refl (skip before ls (and-second (not (l .applies)) (none before) n))
+  where
+    go : (b : Bool) → l .applies ≡ b → lowest (before ++ ls) ≡ lowest ls
+        → (elim b as (λ _. ℕ) [ true ↦ l .number | false ↦ lowest (before ++ ls) ]) ≡ lowest ls
+    go true a rest = absurd (false≢true (sym (ap not a) ∙ and-first (not (l .applies)) (none before) n))
+    go false a rest = rest
+
+given-lowest : (k : ℕ) (ls : List Line) → Given k ls → lowest ls ≡ k
+unfolding lowest
+given-lowest k ls g = ap lowest (g .all) ∙ skip (g .before) (g .line ∷ g .after) (g .earlier) ∙ here (g .line .applies) (g .applies)
+  where
+    here : (b : Bool) → b ≡ true → (elim b as (λ _. ℕ) [ true ↦ g .line .number | false ↦ lowest (g .after) ]) ≡ k
+    here true e = g .number
+    here false e = absurd (false≢true e)
+
+none-lowest : (ls : List Line) → none ls ≡ true → lowest ls ≡ 0
+unfolding lowest
+none-lowest [] n = refl
+none-lowest (l ∷ ls) n = go (l .applies) (and-first (not (l .applies)) (none ls) n) (none-lowest ls (and-second (not (l .applies)) (none ls) n))
+  where
+    go : (b : Bool) → not b ≡ true → lowest ls ≡ 0 → _≡_ {A = ℕ} (elim b as (λ _. ℕ) [ true ↦ l .number | false ↦ lowest ls ]) 0
+    go true a rest = absurd (false≢true a)
+    go false a rest = rest
+
+lowest-none : (ls : List Line) → numbered ls ≡ true → lowest ls ≡ 0 → none ls ≡ true
+unfolding lowest
+lowest-none [] w e = refl
+lowest-none (l ∷ ls) w e = go (l .applies) (lowest-none ls (and-second (not (eqb (l .number) 0)) (numbered ls) w)) e
+  where
+    go : (b : Bool) → (lowest ls ≡ 0 → none ls ≡ true) → _≡_ {A = ℕ} (elim b as (λ _. ℕ) [ true ↦ l .number | false ↦ lowest ls ]) 0
+        → (not b && none ls) ≡ true
+    go true rest q = absurd (false≢true (sym (ap not (eq-eqb (l .number) 0 q)) ∙ and-first (not (eqb (l .number) 0)) (numbered ls) w))
+    go false rest q = rest q
+
+pub lowest-is-given : LowestIsGiven
+lowest-is-given =
+    record {
+      some = λ k ne ls. (lowest-given k ne ls, given-lowest k ls);
+      nothing = λ ls w. (lowest-none ls w, none-lowest ls);
+    }
+
+-- Each call.
+number-enter : (m : Machine) (p v : ℕ) → numberOf (enterOf m p v .answer) ≡ lowest (enterLines m p)
+unfolding enterOf lowest
+number-enter m p v = go (shaped m) (leb 1 p && leb p (m .n)) (stageOf m p)
+  where
+    go : (s r : Bool) (t : Stage) → numberOf (cond s (cond r (enterAt t m p v) (refused NoProcess m)) (refused NotShaped m) .answer)
+        ≡ lowest (when 1 (not s) ∷ when 2 (not r) ∷ when 3 (entered t) ∷ [])
+    go false r t = refl
+    go true false t = refl
+    go true true Absent = refl
+    go true true (Running x k f) = refl
+    go true true (Finished x w) = refl
+    go true true (Crashed x k f) = refl
+
+number-crash : (m : Machine) (p : ℕ) → numberOf (crashOf m p .answer) ≡ lowest (crashLines m p)
+unfolding crashOf lowest
+number-crash m p = go (shaped m) (leb 1 p && leb p (m .n)) (stageOf m p)
+  where
+    go : (s r : Bool) (t : Stage) → numberOf (cond s (cond r (crashAt t m p) (refused NoProcess m)) (refused NotShaped m) .answer)
+        ≡ lowest (when 1 (not s) ∷ when 2 (not r) ∷ when 4 (not (entered t)) ∷ when 5 (crashed t) ∷ when 6 (finished t) ∷ [])
+    go false r t = refl
+    go true false t = refl
+    go true true Absent = refl
+    go true true (Running x k f) = refl
+    go true true (Finished x w) = refl
+    go true true (Crashed x k f) = refl
+
+number-finish : (m : Machine) (p : ℕ) → lowest (crashLines m p) ≢ 0 → numberOf (finishOf m p .answer) ≡ lowest (crashLines m p)
+unfolding finishOf lowest
+number-finish m p = go (shaped m) (leb 1 p && leb p (m .n)) (stageOf m p)
+  where
+    go : (s r : Bool) (t : Stage)
+        → lowest (when 1 (not s) ∷ when 2 (not r) ∷ when 4 (not (entered t)) ∷ when 5 (crashed t) ∷ when 6 (finished t) ∷ []) ≢ 0
+        → numberOf (cond s (cond r (finishAt t m p) (refused NoProcess m)) (refused NotShaped m) .answer)
+        ≡ lowest (when 1 (not s) ∷ when 2 (not r) ∷ when 4 (not (entered t)) ∷ when 5 (crashed t) ∷ when 6 (finished t) ∷ [])
+    go false r t ne = refl
+    go true false t ne = refl
+    go true true Absent ne = refl
+    go true true (Running x k f) ne = absurd (ne refl)
+    go true true (Finished x w) ne = refl
+    go true true (Crashed x k f) ne = refl
+
+-- 7, or no number
+seven : (b c : Bool) → b ≡ c → lowest (when 7 b ∷ []) ≡ cond c 7 0
+unfolding lowest
+seven b true e = ap (λ b. lowest (when 7 b ∷ [])) e
+seven b false e = ap (λ b. lowest (when 7 b ∷ [])) e
+
+fails-first : (a b c : Bool) → a ≡ false → (a && b && c) ≡ false
+fails-first a b c e = ap (λ a. a && b && c) e
+
+fails-second : (a b c : Bool) → b ≡ false → (a && b && c) ≡ false
+fails-second true b c e = ap (λ b. b && c) e
+fails-second false b c e = refl
+
+fails-third : (a b c : Bool) → c ≡ false → (a && b && c) ≡ false
+fails-third true true c e = e
+fails-third true false c e = refl
+fails-third false b c e = refl
+
+number-access : (m : Machine) (p x k f : ℕ) → Going (m .n) (rowOf m) x k f → 1 ≤ m .n
+    → numberOf (access m p x k f .answer) ≡ lowest (when 7 (eqb x 1 && eqb k (m .n) && not (eqb (size (reading (rowOf m x) k f)) 1)) ∷ [])
+number-access m p x k f g some = go (equal-or-not k 0) (equal-or-not k (m .n)) (equal-or-not (size (reading (rowOf m x) k f)) x) (equal-or-not x 1)
+  where
+    w : Bool
+    w = eqb x 1 && eqb k (m .n) && not (eqb (size (reading (rowOf m x) k f)) 1)
+
+    last : k ≡ m .n → access m p x k f ≡ settle m p x (reading (rowOf m x) k f)
+    last q = subst (λ j. access m p x j f ≡ settle m p x (reading (rowOf m x) j f)) (sym q) (access-last m p x f some)
+
+    go : (k ≡ 0) ⊎ (k ≢ 0) → (k ≡ m .n) ⊎ (k ≢ m .n) → (size (reading (rowOf m x) k f) ≡ x) ⊎ (size (reading (rowOf m x) k f) ≢ x) → (x ≡ 1) ⊎ (x ≢ 1)
+        → numberOf (access m p x k f .answer) ≡ lowest (when 7 w ∷ [])
+    go (inl z) b s o =
+        let ne : k ≢ m .n = omega arith in
+        subst (λ j. numberOf (access m p x j f .answer) ≡ 0) (sym z) (ap (λ c. numberOf (c .answer)) (access-write m p x f))
+        ∙ sym (seven w false (fails-second (eqb x 1) (eqb k (m .n)) _ (ne-eqb k (m .n) ne)))
+    go (inr nz) (inr ne) s o =
+        let lo : 1 ≤ k = omega arith in
+        let hi : k < m .n = omega (arith, g .accesses) in
+        ap (λ c. numberOf (c .answer)) (access-read m p x k f lo hi)
+        ∙ sym (seven w false (fails-second (eqb x 1) (eqb k (m .n)) _ (ne-eqb k (m .n) ne)))
+    go (inr nz) (inl q) (inl s) (inl o) =
+        let one : size (reading (rowOf m x) k f) ≡ 1 = s ∙ o in
+        ap (λ c. numberOf (c .answer)) (last q ∙ settle-finish m p x (reading (rowOf m x) k f) s)
+        ∙ sym (seven w false (fails-third (eqb x 1) (eqb k (m .n)) _ (ap not (eq-eqb (size (reading (rowOf m x) k f)) 1 one))))
+    go (inr nz) (inl q) (inl s) (inr o) =
+        ap (λ c. numberOf (c .answer)) (last q ∙ settle-finish m p x (reading (rowOf m x) k f) s)
+        ∙ sym (seven w false (fails-first (eqb x 1) (eqb k (m .n)) _ (ne-eqb x 1 o)))
+    go (inr nz) (inl q) (inr s) (inr o) =
+        let two : 2 ≤ x = omega (arith, g .low) in
+        ap (λ c. numberOf (c .answer)) (last q ∙ settle-fall m p x (reading (rowOf m x) k f) s two)
+        ∙ sym (seven w false (fails-first (eqb x 1) (eqb k (m .n)) _ (ne-eqb x 1 o)))
+    go (inr nz) (inl q) (inr s) (inl o) =
+        let many : size (reading (rowOf m x) k f) ≢ 1 = λ e. s (e ∙ sym o) in
+        ap (λ c. numberOf (c .answer))
+        (last q ∙ subst (λ y. settle m p y (reading (rowOf m x) k f) ≡ refused NotAlone m) (sym o) (settle-stick m p (reading (rowOf m x) k f) many))
+        ∙ sym (seven w true (both (eqb x 1 && eqb k (m .n)) _ (both (eqb x 1) _ (eq-eqb x 1 o) (eq-eqb k (m .n) q))
+        (ap not (ne-eqb (size (reading (rowOf m x) k f)) 1 many))))
+
+number-step : (m : Machine) (p : ℕ) → numberOf (stepOf m p .answer) ≡ lowest (stepLines m p)
+unfolding stepOf lowest
+number-step m p = go (shaped m) (leb 1 p && leb p (m .n)) (stageOf m p) refl refl refl
+  where
+    go : (s r : Bool) (t : Stage) → shaped m ≡ s → (leb 1 p && leb p (m .n)) ≡ r → stageOf m p ≡ t
+        → numberOf (cond s (cond r (stepAt t m p) (refused NoProcess m)) (refused NotShaped m) .answer)
+        ≡ lowest (when 1 (not s) ∷ when 2 (not r) ∷ when 4 (not (entered t)) ∷ when 5 (crashed t) ∷ when 6 (finished t) ∷ when 7 (lastOfMany m t) ∷ [])
+    go false r t e₁ e₂ e₃ = refl
+    go true false t e₁ e₂ e₃ = refl
+    go true true Absent e₁ e₂ e₃ = refl
+    go true true (Running x k f) e₁ e₂ e₃ =
+        let lo : 1 ≤ p = leb-true 1 p (and-first (leb 1 p) _ e₂) in
+        let hi : p ≤ m .n = leb-true p (m .n) (and-second (leb 1 p) _ e₂) in
+        let some : 1 ≤ m .n = omega arith in
+        number-access m p x k f (running m p (record { shape = e₁; low = lo; high = hi }) x k f e₃) some
+    go true true (Finished x w) e₁ e₂ e₃ = refl
+    go true true (Crashed x k f) e₁ e₂ e₃ = refl
+
+number-look : (m : Machine) (p : ℕ) → numberOf (lookOf m p .answer) ≡ lowest (always m p)
+unfolding lookOf lowest
+number-look m p = go (shaped m) (leb 1 p && leb p (m .n))
+  where
+    go : (s r : Bool)
+        → numberOf (cond s (cond r (looked m (stageOf m p)) (unseen NoProcess)) (unseen NotShaped) .answer)
+        ≡ lowest (when 1 (not s) ∷ when 2 (not r) ∷ [])
+    go true true = refl
+    go true false = refl
+    go false r = refl
+
+number-new : (n : ℕ) → numberOf (newOf n .answer) ≡ lowest (when 8 (not (leb 1 n && leb n 32)) ∷ [])
+unfolding newOf lowest
+number-new n = go (leb 1 n && leb n 32)
+  where
+    go : (b : Bool) → numberOf (cond b (done (fresh n)) (refused OutOfRange (fresh 1)) .answer) ≡ lowest (when 8 (not b) ∷ [])
+    go true = refl
+    go false = refl
+
+pub table-of-numbers : TableOfNumbers
+table-of-numbers =
+    record { enter = number-enter; step = number-step; crash = number-crash; finish = number-finish; look = number-look; new = number-new }

@@ -1,0 +1,8 @@
+-- Document 01's rules as definitions, which a reader must believe, and what is proved of them.
+pub mod State
+pub mod Shape
+pub mod Calls
+pub mod Numbers
+pub mod Alone
+pub mod Statements
+pub mod Examples

@@ -1,0 +1,222 @@
+-- What is proved of the machine's definitions, with the sentence of document 01 above each statement. proofs/Laws proves them.
+use mathlib.Core.Path.{_≡_}
+use mathlib.Core.Logic.{_↔_, _⊎_, _≢_}
+use mathlib.Core.Bool.{Bool, true, false, not, _&&_}
+use mathlib.Core.List.{List, [], _∷_, _++_}
+use Prim.Native.Nat.{ℕ, _+_, _-_, _*_, _≤_, _<_}
+use lib.Dec.{leb, eqb}
+use lib.ListN.{replicate}
+use Rattle.sets.specs.Sets.{has, size}
+use Rattle.rules.specs.declared.Stage.the-variants.{Absent, Running, Finished, Crashed}
+use Rattle.rules.specs.declared.Machine.{Machine}
+use Rattle.rules.specs.declared.Answer.{Answer}
+use Rattle.rules.specs.declared.Answer.the-variants.{NotAlone}
+use Rattle.rules.specs.declared.Standing.{Standing}
+use Rattle.rules.specs.declared.Sight.{Sight}
+use Rattle.rules.specs.declared.Called.{Called}
+use Rattle.rules.specs.State.{processOf, stageOf, valueOf, rowOf, cellOf, finished, crashed, levelOf, madeOf, foundOf, accessesOf}
+use Rattle.rules.specs.State.{withProcess, withStage}
+use Rattle.rules.specs.Shape.{Held, Shaped, shaped}
+use Rattle.rules.specs.Alone.{finishLines, aloneOf}
+use Rattle.rules.specs.Numbers.{Line, when, lowest, always, enterLines, crashLines, stepLines}
+use Rattle.rules.specs.Calls.{numberOf, accepted, done, refused, fresh, newOf, enterOf, crashOf, reading, write, stepOf, stepsOf}
+use Rattle.rules.specs.Calls.{finishOf, lookOf}
+
+-- Shape. The test that the code computes is the record of document 01's paragraph.
+abbrev pub ShapeIsTested : Type 0
+ShapeIsTested = (m : Machine) → (shaped m ≡ true) ↔ Shaped m
+
+-- a well shaped machine of n processes
+pub record Meets (n : ℕ) (m : Machine) : Type 0 where
+  pub size : m .n ≡ n
+  pub held : Held m
+  pub shape : Shaped m
+
+-- "Every state that a run leaves meets it": a fresh machine does, and what a call leaves of a machine that does.
+pub record EveryStateMeets : Type 0 where
+  pub starts : (n : ℕ) → 1 ≤ n → n ≤ 32 → Meets n (fresh n)
+  pub enter : (n : ℕ) (m : Machine) → Meets n m → (p v : ℕ) → Meets n (enterOf m p v .machine)
+  pub step : (n : ℕ) (m : Machine) → Meets n m → (p : ℕ) → Meets n (stepOf m p .machine)
+  pub crash : (n : ℕ) (m : Machine) → Meets n m → (p : ℕ) → Meets n (crashOf m p .machine)
+  pub finish : (n : ℕ) (m : Machine) → Meets n m → (p : ℕ) → Meets n (finishOf m p .machine)
+
+-- Neither 1 nor 2 applies.
+pub record Valid (m : Machine) (p : ℕ) : Type 0 where
+  pub shape : shaped m ≡ true
+  pub low : 1 ≤ p
+  pub high : p ≤ m .n
+
+-- what a process at level x has found with the last read there, having found f before it
+abbrev pub atLast : Machine → ℕ → ℕ → ℕ
+atLast m x f = reading (rowOf m x) (m .n) f
+
+-- What an accepted call did. Rule 3: "Entering gives a process its value and puts it at level n with no access made. It touches no register."
+pub record DidEnter (m : Machine) (p v : ℕ) (c : Called) : Type 0 where
+  pub was : stageOf m p ≡ Absent
+  pub left : c ≡ done (withProcess m p (record { stage = Running (m .n) 0 0; value = v }))
+
+-- Rule 6: "A crashed process never moves again. What it wrote stays."
+pub record DidCrash (m : Machine) (p : ℕ) (c : Called) : Type 0 where
+  pub level : ℕ
+  pub made : ℕ
+  pub found : ℕ
+  pub was : stageOf m p ≡ Running level made found
+  pub left : c ≡ done (withStage m p (Crashed level made found))
+
+-- Rules 4 and 5: the write; a read that is not the last; the last read, which finishes or goes to the next lower level.
+pub data DidStep (m : Machine) (p : ℕ) (c : Called) : Type 0 where
+  did-write : (x f : ℕ) → stageOf m p ≡ Running x 0 f → c ≡ done (write m p x f) → DidStep m p c
+  did-read : (x k f : ℕ) → stageOf m p ≡ Running x k f → 1 ≤ k → k < m .n
+      → c ≡ done (withStage m p (Running x (k + 1) (reading (rowOf m x) k f))) → DidStep m p c
+  did-finish : (x f : ℕ) → stageOf m p ≡ Running x (m .n) f → size (atLast m x f) ≡ x
+      → c ≡ done (withStage m p (Finished x (atLast m x f))) → DidStep m p c
+  did-fall : (x f : ℕ) → stageOf m p ≡ Running x (m .n) f → size (atLast m x f) ≢ x → 2 ≤ x
+      → c ≡ done (withStage m p (Running (x - 1) 0 0)) → DidStep m p c
+
+-- "step at level 1 whose last read gives a count other than 1"
+pub record DidStick (m : Machine) (p : ℕ) (c : Called) : Type 0 where
+  pub found : ℕ
+  pub was : stageOf m p ≡ Running 1 (m .n) found
+  pub others : size (atLast m 1 found) ≢ 1
+  pub left : c ≡ refused NotAlone m
+
+pub record WhatCallsDid : Type 0 where
+  pub enter : (m : Machine) (p v : ℕ) → accepted (enterOf m p v) ≡ true → Valid m p × DidEnter m p v (enterOf m p v)
+  pub crash : (m : Machine) (p : ℕ) → accepted (crashOf m p) ≡ true → Valid m p × DidCrash m p (crashOf m p)
+  pub step : (m : Machine) (p : ℕ) → accepted (stepOf m p) ≡ true → Valid m p × DidStep m p (stepOf m p)
+
+-- The same from what stands to what the call does.
+pub record WhatCallsDo : Type 0 where
+  pub enters : (m : Machine) (p : ℕ) → Valid m p → (v : ℕ) → stageOf m p ≡ Absent
+      → enterOf m p v ≡ done (withProcess m p (record { stage = Running (m .n) 0 0; value = v }))
+  pub crashes : (m : Machine) (p : ℕ) → Valid m p → (x k f : ℕ) → stageOf m p ≡ Running x k f → crashOf m p ≡ done (withStage m p (Crashed x k f))
+  pub writes : (m : Machine) (p : ℕ) → Valid m p → (x f : ℕ) → stageOf m p ≡ Running x 0 f → stepOf m p ≡ done (write m p x f)
+  pub reads : (m : Machine) (p : ℕ) → Valid m p → (x k f : ℕ) → stageOf m p ≡ Running x k f → 1 ≤ k → k < m .n
+      → stepOf m p ≡ done (withStage m p (Running x (k + 1) (reading (rowOf m x) k f)))
+  pub finishes : (m : Machine) (p : ℕ) → Valid m p → (x f : ℕ) → stageOf m p ≡ Running x (m .n) f → size (atLast m x f) ≡ x
+      → stepOf m p ≡ done (withStage m p (Finished x (atLast m x f)))
+  pub falls : (m : Machine) (p : ℕ) → Valid m p → (x f : ℕ) → stageOf m p ≡ Running x (m .n) f → size (atLast m x f) ≢ x → 2 ≤ x
+      → stepOf m p ≡ done (withStage m p (Running (x - 1) 0 0))
+  pub sticks : (m : Machine) (p : ℕ) → Valid m p → (f : ℕ) → stageOf m p ≡ Running 1 (m .n) f → size (atLast m 1 f) ≢ 1
+      → stepOf m p ≡ refused NotAlone m
+
+-- nothing is seen
+abbrev pub absentSight : Answer → Sight
+absentSight a = record { answer = a; standing = Standing.Absent; level = 0; accesses = 0; view = 0; values = replicate 32 0 }
+
+-- Demand 1: "A refused machine call hands back the state it was given." "A new machine is refused with 8 only, and then a fresh machine of one
+-- process is returned." "A refused look gives absent, 0, 0 and no view."
+pub record RefusedHandsBack : Type 0 where
+  pub enter : (m : Machine) (p v : ℕ) → accepted (enterOf m p v) ≡ false → enterOf m p v .machine ≡ m
+  pub step : (m : Machine) (p : ℕ) → accepted (stepOf m p) ≡ false → stepOf m p .machine ≡ m
+  pub crash : (m : Machine) (p : ℕ) → accepted (crashOf m p) ≡ false → crashOf m p .machine ≡ m
+  pub finish : (m : Machine) (p : ℕ) → accepted (finishOf m p) ≡ false → finishOf m p .machine ≡ m
+  pub new : (n : ℕ) → accepted (newOf n) ≡ false → newOf n .machine ≡ fresh 1
+  pub look : (m : Machine) (p : ℕ) → numberOf (lookOf m p .answer) ≢ 0 → lookOf m p ≡ absentSight (lookOf m p .answer)
+
+-- "Given exactly when": the number k is given where a line of that number applies and no line before it does; 0 where no line applies.
+abbrev pub none : List Line → Bool
+none [] = true
+none (l ∷ ls) = not (l .applies) && none ls
+
+abbrev pub numbered : List Line → Bool
+numbered [] = true
+numbered (l ∷ ls) = not (eqb (l .number) 0) && numbered ls
+
+pub record Given (k : ℕ) (ls : List Line) : Type 0 where
+  pub before : List Line
+  pub line : Line
+  pub after : List Line
+  pub all : ls ≡ before ++ line ∷ after
+  pub number : line .number ≡ k
+  pub applies : line .applies ≡ true
+  pub earlier : none before ≡ true
+
+pub record LowestIsGiven : Type 0 where
+  pub some : (k : ℕ) → k ≢ 0 → (ls : List Line) → (lowest ls ≡ k) ↔ Given k ls
+  pub nothing : (ls : List Line) → numbered ls ≡ true → (lowest ls ≡ 0) ↔ (none ls ≡ true)
+
+-- "The lowest number that applies is given for machine calls (1 to 7)." Finishing alone goes on after 6 with the numbers of its steps.
+pub record TableOfNumbers : Type 0 where
+  pub enter : (m : Machine) (p v : ℕ) → numberOf (enterOf m p v .answer) ≡ lowest (enterLines m p)
+  pub step : (m : Machine) (p : ℕ) → numberOf (stepOf m p .answer) ≡ lowest (stepLines m p)
+  pub crash : (m : Machine) (p : ℕ) → numberOf (crashOf m p .answer) ≡ lowest (crashLines m p)
+  pub finish : (m : Machine) (p : ℕ) → lowest (crashLines m p) ≢ 0 → numberOf (finishOf m p .answer) ≡ lowest (crashLines m p)
+  -- "A look at a process refuses 1, 2"
+  pub look : (m : Machine) (p : ℕ) → numberOf (lookOf m p .answer) ≡ lowest (always m p)
+  -- "A new machine is refused with 8 only"
+  pub new : (n : ℕ) → numberOf (newOf n .answer) ≡ lowest (when 8 (not (leb 1 n && leb n 32)) ∷ [])
+
+-- Demand 2: "An accepted enter or crash does to its task what rules 2, 3 and 6 of document 01 say, the batch number kept as it was given, and
+-- changes nothing else." `m′` is what a call of process p leaves of m.
+pub record OthersStay (m m′ : Machine) (p : ℕ) : Type 0 where
+  pub size : m′ .n ≡ m .n
+  pub others : (q : ℕ) → 1 ≤ q → q ≢ p → processOf m′ q ≡ processOf m q
+
+pub record RegistersStay (m m′ : Machine) : Type 0 where
+  pub rows : m′ .filled ≡ m .filled
+  pub cells : m′ .values ≡ m .values
+
+pub record EnterEffect (m m′ : Machine) (p v : ℕ) : Type 0 where
+  pub value : valueOf m′ p ≡ v
+  pub stage : stageOf m′ p ≡ Running (m .n) 0 0
+  pub rest : OthersStay m m′ p
+  pub registers : RegistersStay m m′
+
+pub record CrashEffect (m m′ : Machine) (p : ℕ) : Type 0 where
+  pub never-moves : crashed (stageOf m′ p) ≡ true
+  pub level : levelOf (stageOf m′ p) ≡ levelOf (stageOf m p)
+  pub made : madeOf (m .n) (stageOf m′ p) ≡ madeOf (m .n) (stageOf m p)
+  pub found : foundOf (stageOf m′ p) ≡ foundOf (stageOf m p)
+  pub value : valueOf m′ p ≡ valueOf m p
+  pub rest : OthersStay m m′ p
+  pub registers : RegistersStay m m′
+
+-- "An accepted step makes one register access": its first access at a level fills its own register in the row of that level, with its value; any
+-- other changes no register.
+pub record StepEffect (m m′ : Machine) (p : ℕ) : Type 0 where
+  pub value : valueOf m′ p ≡ valueOf m p
+  pub rest : OthersStay m m′ p
+  pub first : madeOf (m .n) (stageOf m p) ≡ 0
+      → (has (rowOf m′ (levelOf (stageOf m p))) p ≡ true) × (cellOf m′ (levelOf (stageOf m p)) p ≡ valueOf m p)
+  pub elsewhere : (y i : ℕ) → 1 ≤ y → y ≤ 32 → 1 ≤ i → i ≤ 32 → (y ≢ levelOf (stageOf m p)) ⊎ (i ≢ p)
+      → (has (rowOf m′ y) i ≡ has (rowOf m y) i) × (cellOf m′ y i ≡ cellOf m y i)
+  pub later : madeOf (m .n) (stageOf m p) ≢ 0 → RegistersStay m m′
+
+pub record EffectsOfCalls : Type 0 where
+  pub enter : (m : Machine) → Held m → (p v : ℕ) → accepted (enterOf m p v) ≡ true → EnterEffect m (enterOf m p v .machine) p v
+  pub crash : (m : Machine) → Held m → (p : ℕ) → accepted (crashOf m p) ≡ true → CrashEffect m (crashOf m p .machine) p
+  pub step : (m : Machine) → Held m → (p : ℕ) → accepted (stepOf m p) ≡ true → StepEffect m (stepOf m p .machine) p
+
+-- Rule 7: "Accesses of a process = (n+1)(n-level) + accesses at this level, where a finished process has n+1 at its level." Each accepted step is
+-- one access more; an enter and a crash make none. A process makes at most n(n+1).
+pub record AccessesOfCalls : Type 0 where
+  pub enter : (m : Machine) → Held m → (p v : ℕ) → accepted (enterOf m p v) ≡ true
+      → (accessesOf (m .n) (stageOf m p) ≡ 0) × (accessesOf (m .n) (stageOf (enterOf m p v .machine) p) ≡ 0)
+  pub step : (m : Machine) → Held m → (p : ℕ) → accepted (stepOf m p) ≡ true
+      → accessesOf (m .n) (stageOf (stepOf m p .machine) p) ≡ accessesOf (m .n) (stageOf m p) + 1
+  pub crash : (m : Machine) → Held m → (p : ℕ) → accepted (crashOf m p) ≡ true
+      → accessesOf (m .n) (stageOf (crashOf m p .machine) p) ≡ accessesOf (m .n) (stageOf m p)
+  pub finished : (m : Machine) → Shaped m → (p : ℕ) → 1 ≤ p → p ≤ m .n → finished (stageOf m p) ≡ true
+      → accessesOf (m .n) (stageOf m p) ≡ (m .n + 1) * (m .n - size (foundOf (stageOf m p)) + 1)
+  pub most : (m : Machine) → Shaped m → (p : ℕ) → 1 ≤ p → p ≤ m .n → accessesOf (m .n) (stageOf m p) ≤ m .n * (m .n + 1)
+
+-- Rule 8: "Finishing alone: a call for one process makes its steps until it finishes. .. It equals that many single steps."
+pub record FinishedAlone (m : Machine) (p : ℕ) : Type 0 where
+  pub ended : finished (stageOf (finishOf m p .machine) p) ≡ true
+  pub steps : stepsOf (accessesOf (m .n) (stageOf (finishOf m p .machine) p) - accessesOf (m .n) (stageOf m p)) m p ≡ finishOf m p
+
+-- "If one of these steps would be refused, the call is refused with that number and the state is as at entry." The number is 7.
+pub record RefusedAlone (m : Machine) (p : ℕ) : Type 0 where
+  pub steps : ℕ
+  pub made : accepted (stepsOf steps m p) ≡ true
+  pub next : stepOf (stepsOf steps m p .machine) p .answer ≡ finishOf m p .answer
+  pub number : finishOf m p .answer ≡ NotAlone
+  pub state : finishOf m p .machine ≡ m
+
+-- for every state that the types allow; the lines 1, 2, 4, 5, 6 come first
+pub record FinishingAlone : Type 0 where
+  pub number : (m : Machine) → Held m → (p : ℕ) → numberOf (finishOf m p .answer) ≡ lowest (finishLines m p)
+  pub accepts : (m : Machine) → Held m → (p : ℕ) → accepted (finishOf m p) ≡ true → FinishedAlone m p
+  pub refuses : (m : Machine) → Held m → (p : ℕ) → lowest (crashLines m p) ≡ 0 → accepted (finishOf m p) ≡ false → RefusedAlone m p
+  pub closed : (m : Machine) → Held m → (p : ℕ) → finishOf m p ≡ aloneOf m p

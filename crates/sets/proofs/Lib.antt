@@ -1,0 +1,5 @@
+-- Laws of sets of processes, which the crates above cite.
+pub mod Digits
+pub mod Laws
+pub mod Bits
+pub mod Determined
