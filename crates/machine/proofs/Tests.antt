@@ -1,40 +1,165 @@
--- The calls as the code makes them: the first tests of every call, 1 and 2, a step that reads, and a look.
+-- The calls as the code makes them: what the first tests leave, a step that reads, and a look.
 use mathlib.Core.Path.{_≡_, refl, ap, subst, _∙_}
+use mathlib.Core.Bool.{Bool, true, false, _&&_, cond, true≢false, false≢true}
 use mathlib.Core.List.{List}
-use mathlib.Core.Bool.{Bool, true, false, _&&_, cond}
 use Prim.Native.Nat.{ℕ, _+_, _-_, _≤_, _<_}
 use native.Mathlib.Omega.{arith}
 use lib.Dec.{leb, ltb, eqb}
 use borrow.Author.Tests.{leb-true, le-leb, ne-eqb}
 use Rattle.sets.specs.Sets.{size}
+use Rattle.rules.specs.declared.Stage.{Stage}
+use Rattle.rules.specs.declared.Stage.the-variants.{Absent, Running, Finished, Crashed}
+use Rattle.rules.specs.declared.Process.{Process}
 use Rattle.rules.specs.declared.Machine.{Machine}
+use Rattle.rules.specs.declared.Answer.{Answer}
+use Rattle.rules.specs.declared.Answer.the-variants.{Done, NotShaped, NoProcess, NeverEntered, HasCrashed, HasFinished, NotAlone}
 use Rattle.rules.specs.declared.Called.{Called}
-use Rattle.rules.specs.declared.Answer.the-variants.{Done, NotShaped, NoProcess, NotAlone}
 use Rattle.rules.specs.declared.Standing.{Standing}
 use Rattle.rules.specs.declared.Sight.{Sight}
-use Rattle.rules.specs.declared.Stage.{Stage}
-use Rattle.rules.specs.declared.Stage.the-variants.{Running, Finished}
-use Rattle.machine.specs.declared.Next.{Next}
-use Rattle.machine.specs.declared.Next.the-variants.{To, Nowhere}
-use Rattle.rules.specs.State.{stageOf, rowOf, withStage}
-use Rattle.machine.specs.After.{afterRead}
+use Rattle.rules.specs.State.{nobody, processOf, stageOf, valueOf, rowOf, withStage}
 use Rattle.rules.specs.Shape.{ShapedStage, shaped}
 use Rattle.rules.specs.Calls.{done, refused, tested, reading, write, settle, access, valuesOf, looked, blindly, unseen, lookOf}
 use Rattle.rules.specs.Statements.{Valid}
 use Rattle.rules.proofs.Laws.Small.{and-first, and-second, both, cond-true, cond-false}
 use Rattle.rules.proofs.Laws.Shape.{shaped-record}
+use Rattle.rules.proofs.Laws.Did.{goes-on}
+use Rattle.machine.specs.declared.Next.{Next}
+use Rattle.machine.specs.declared.Next.the-variants.{To, Nowhere}
+use Rattle.machine.specs.declared.Found.{Found}
+use Rattle.machine.specs.declared.Mover.{Mover}
+use Rattle.machine.specs.Found.{foundOf, moverBy, moverIn, moverOf}
+use Rattle.machine.specs.After.{afterRead}
 use Rattle.machine.proofs.Values.{no-values}
 
-pub unshaped : (m : Machine) (p : ℕ) (c : Called) → shaped m ≡ false → tested m p c ≡ refused NotShaped m
-unshaped m p c e = ap (λ (b : Bool). cond b (cond (leb 1 p && leb p (m .n)) c (refused NoProcess m)) (refused NotShaped m)) e
+pub unshaped : (m : Machine) (p : ℕ) → shaped m ≡ false → foundOf m p ≡ Found.Refused NotShaped
+unshaped m p e = cond-false (shaped m) _ (Found.Refused NotShaped) e
 
-pub no-process : (m : Machine) (p : ℕ) (c : Called) → shaped m ≡ true → (leb 1 p && leb p (m .n)) ≡ false → tested m p c ≡ refused NoProcess m
-no-process m p c e f =
-    ap (λ (b : Bool). cond b (cond (leb 1 p && leb p (m .n)) c (refused NoProcess m)) (refused NotShaped m)) e
-    ∙ ap (λ (b : Bool). cond b c (refused NoProcess m)) f
+pub no-process : (m : Machine) (p : ℕ) → shaped m ≡ true → (leb 1 p && leb p (m .n)) ≡ false → foundOf m p ≡ Found.Refused NoProcess
+no-process m p e f = cond-true (shaped m) _ (Found.Refused NotShaped) e ∙ cond-false (leb 1 p && leb p (m .n)) _ (Found.Refused NoProcess) f
 
 pub passed : (m : Machine) (p : ℕ) → shaped m ≡ true → (leb 1 p && leb p (m .n)) ≡ true → Valid m p
-passed m p e f = record { shape = e; low = leb-true 1 p (and-first (leb 1 p) (leb p (m .n)) f); high = leb-true p (m .n) (and-second (leb 1 p) (leb p (m .n)) f) }
+passed m p e f =
+    record { shape = e; low = leb-true 1 p (and-first (leb 1 p) (leb p (m .n)) f); high = leb-true p (m .n) (and-second (leb 1 p) (leb p (m .n)) f) }
+
+pub found : (m : Machine) (p : ℕ) → shaped m ≡ true → (leb 1 p && leb p (m .n)) ≡ true → foundOf m p ≡ Found.Record (processOf m p)
+found m p e f = cond-true (shaped m) _ (Found.Refused NotShaped) e ∙ cond-true (leb 1 p && leb p (m .n)) _ (Found.Refused NoProcess) f
+
+-- What is found, taken apart again.
+abbrev answerIn : Found → Answer
+answerIn (Found.Record P) = Done
+answerIn (Found.Refused a) = a
+
+abbrev processIn : Found → Process
+processIn (Found.Record P) = P
+processIn (Found.Refused a) = nobody
+
+abbrev isRecord : Found → Bool
+isRecord (Found.Record P) = true
+isRecord (Found.Refused a) = false
+
+pub refused-call : (m : Machine) (p : ℕ) (a : Answer) (c : Called) → foundOf m p ≡ Found.Refused a → tested m p c ≡ refused a m
+refused-call m p a c = go (shaped m) (leb 1 p && leb p (m .n))
+  where
+    go : (s r : Bool) → cond s (cond r (Found.Record (processOf m p)) (Found.Refused NoProcess)) (Found.Refused NotShaped) ≡ Found.Refused a
+        → cond s (cond r c (refused NoProcess m)) (refused NotShaped m) ≡ refused a m
+    go true true e = absurd (true≢false (ap isRecord e))
+    go true false e = ap (λ (f : Found). refused (answerIn f) m) e
+    go false r e = ap (λ (f : Found). refused (answerIn f) m) e
+
+pub refused-look : (m : Machine) (p : ℕ) (a : Answer) → foundOf m p ≡ Found.Refused a → lookOf m p ≡ unseen a
+unfolding lookOf
+refused-look m p a = go (shaped m) (leb 1 p && leb p (m .n))
+  where
+    go : (s r : Bool) → cond s (cond r (Found.Record (processOf m p)) (Found.Refused NoProcess)) (Found.Refused NotShaped) ≡ Found.Refused a
+        → cond s (cond r (looked m (stageOf m p)) (unseen NoProcess)) (unseen NotShaped) ≡ unseen a
+    go true true e = absurd (true≢false (ap isRecord e))
+    go true false e = ap (λ (f : Found). unseen (answerIn f)) e
+    go false r e = ap (λ (f : Found). unseen (answerIn f)) e
+
+pub found-valid : (m : Machine) (p : ℕ) (P : Process) → foundOf m p ≡ Found.Record P → Valid m p × (processOf m p ≡ P)
+found-valid m p P = go (shaped m) (leb 1 p && leb p (m .n)) refl refl
+  where
+    go : (s r : Bool) → shaped m ≡ s → (leb 1 p && leb p (m .n)) ≡ r
+        → cond s (cond r (Found.Record (processOf m p)) (Found.Refused NoProcess)) (Found.Refused NotShaped) ≡ Found.Record P → Valid m p × (processOf m p ≡ P)
+    go true true s r e = (passed m p s r, ap processIn e)
+    go true false s r e = absurd (false≢true (ap isRecord e))
+    go false r s q e = absurd (false≢true (ap isRecord e))
+
+-- What moves, taken apart again.
+abbrev answerOf : Mover → Answer
+answerOf (Mover.Running x k f v) = Done
+answerOf (Mover.Refused a) = a
+
+abbrev moves : Mover → Bool
+moves (Mover.Running x k f v) = true
+moves (Mover.Refused a) = false
+
+abbrev moverStage : Mover → Stage
+moverStage (Mover.Running x k f v) = Running x k f
+moverStage (Mover.Refused a) = Absent
+
+abbrev moverValue : Mover → ℕ
+moverValue (Mover.Running x k f v) = v
+moverValue (Mover.Refused a) = 0
+
+-- a call that refuses 4, 5 and 6 by the stage
+pub record Refuses (m : Machine) (at : Stage → Called) : Type 0 where
+  pub absent : at Absent ≡ refused NeverEntered m
+  pub finished : (x w : ℕ) → at (Finished x w) ≡ refused HasFinished m
+  pub crashed : (x k f : ℕ) → at (Crashed x k f) ≡ refused HasCrashed m
+
+pub refused-mover : (m : Machine) (p : ℕ) (a : Answer) (at : Stage → Called) → Refuses m at → moverOf m p ≡ Mover.Refused a
+    → tested m p (at (stageOf m p)) ≡ refused a m
+refused-mover m p a at r = go (foundOf m p) refl
+  where
+    by : (s : Stage) (v : ℕ) → moverBy s v ≡ Mover.Refused a → at s ≡ refused a m
+    by Absent v e = r .absent ∙ ap (λ (q : Mover). refused (answerOf q) m) e
+    by (Running x k f) v e = absurd (true≢false (ap moves e))
+    by (Finished x w) v e = r .finished x w ∙ ap (λ (q : Mover). refused (answerOf q) m) e
+    by (Crashed x k f) v e = r .crashed x k f ∙ ap (λ (q : Mover). refused (answerOf q) m) e
+
+    go : (f : Found) → foundOf m p ≡ f → moverIn f ≡ Mover.Refused a → tested m p (at (stageOf m p)) ≡ refused a m
+    go (Found.Record P) e q =
+        let v = found-valid m p P e in
+        goes-on m p (v .0) (at (stageOf m p)) ∙ ap (λ (P : Process). at (P .stage)) (v .1) ∙ by (P .stage) (P .value) q
+    go (Found.Refused b) e q = refused-call m p b (at (stageOf m p)) e ∙ ap (λ (q : Mover). refused (answerOf q) m) q
+
+-- how a process of a well shaped machine stands
+pub standing : (m : Machine) (p : ℕ) → Valid m p → (s : Stage) → stageOf m p ≡ s → ShapedStage (m .n) (rowOf m) s
+standing m p h s e =
+    let r = shaped-record m (h .shape) in
+    subst (ShapedStage (m .n) (rowOf m)) e (r .process p (h .low) (let u : p ≤ 32 = omega (arith, h .high, r .most) in u) .stage)
+
+pub at-most-32 : (m : Machine) (p : ℕ) → Valid m p → m .n ≤ 32
+at-most-32 m p h = shaped-record m (h .shape) .most
+
+-- process p runs, at level x after k accesses there with f found, and has the value v
+pub record Runs (m : Machine) (p x k f v : ℕ) : Type 0 where
+  pub valid : Valid m p
+  pub stage : stageOf m p ≡ Running x k f
+  pub value : valueOf m p ≡ v
+
+pub runs : (m : Machine) (p x k f v : ℕ) → moverOf m p ≡ Mover.Running x k f v → Runs m p x k f v
+runs m p x k f v = go (foundOf m p) refl
+  where
+    by : (s : Stage) (w : ℕ) → moverBy s w ≡ Mover.Running x k f v → (s ≡ Running x k f) × (w ≡ v)
+    by Absent w e = absurd (false≢true (ap moves e))
+    by (Running y l g) w e = (ap moverStage e, ap moverValue e)
+    by (Finished y u) w e = absurd (false≢true (ap moves e))
+    by (Crashed y l g) w e = absurd (false≢true (ap moves e))
+
+    go : (q : Found) → foundOf m p ≡ q → moverIn q ≡ Mover.Running x k f v → Runs m p x k f v
+    go (Found.Record P) e q =
+        let u = found-valid m p P e in
+        let b = by (P .stage) (P .value) q in
+        record { valid = u .0; stage = ap (λ (P : Process). P .stage) (u .1) ∙ b .0; value = ap (λ (P : Process). P .value) (u .1) ∙ b .1 }
+    go (Found.Refused a) e q = absurd (false≢true (ap moves q))
+
+-- it has a level, and a row there
+pub running-low : (m : Machine) (p x k f v : ℕ) → Runs m p x k f v → (1 ≤ x) × (x ≤ 32)
+running-low m p x k f v r =
+    let s = standing m p (r .valid) (Running x k f) (r .stage) in
+    (s .low, omega (arith, s .high, at-most-32 m p (r .valid)))
 
 -- a process that has passed has a place in the array of records
 pub place : {m : Machine} {p : ℕ} → Valid m p → p - 1 < 32
@@ -63,24 +188,7 @@ access-reads m p x k f ne =
     go false false true = refl
     go false false false = refl
 
--- how a process of a well shaped machine stands
-pub standing : (m : Machine) (p : ℕ) → Valid m p → (s : Stage) → stageOf m p ≡ s → ShapedStage (m .n) (rowOf m) s
-standing m p h s e =
-    let r = shaped-record m (h .shape) in
-    subst (ShapedStage (m .n) (rowOf m)) e (r .process p (h .low) (let u : p ≤ 32 = omega (arith, h .high, r .most) in u) .stage)
-
-pub at-most-32 : (m : Machine) (p : ℕ) → Valid m p → m .n ≤ 32
-at-most-32 m p h = shaped-record m (h .shape) .most
-
 -- a look
-pub look-unshaped : (m : Machine) (p : ℕ) → shaped m ≡ false → lookOf m p ≡ unseen NotShaped
-unfolding lookOf
-look-unshaped m p e = cond-false (shaped m) _ (unseen NotShaped) e
-
-pub look-no-process : (m : Machine) (p : ℕ) → shaped m ≡ true → (leb 1 p && leb p (m .n)) ≡ false → lookOf m p ≡ unseen NoProcess
-unfolding lookOf
-look-no-process m p e f = cond-true (shaped m) _ (unseen NotShaped) e ∙ cond-false (leb 1 p && leb p (m .n)) _ (unseen NoProcess) f
-
 pub look-shows : (m : Machine) (p : ℕ) → Valid m p → (s : Stage) → stageOf m p ≡ s → lookOf m p ≡ looked m s
 unfolding lookOf
 look-shows m p h s e =

@@ -16,6 +16,7 @@ ghost use lib.Dec.{leb};
 ghost use Rattle.sets.specs.Sets.{has};
 ghost use Rattle.rules.specs.Shape.{shaped};
 ghost use Rattle.machine.specs.After.{afterRead};
+ghost use Rattle.machine.specs.Found.{foundOf, moverOf, moverAt};
 ghost use Rattle.rules.specs.Calls.{newOf, fresh, enterOf, crashOf, stepOf, reading, finishOf, lookOf, blindly, rowValues};
 
 // A machine of n processes, none of which has entered.
@@ -72,62 +73,125 @@ fn in_range(p: u32, n: u32) -> bool
     p <= n
 }
 
+// What 1 and 2 leave, which come before all else: the record of process p, or a refusal.
+pub enum Found {
+    Record(Process),
+    Refused(Answer),
+}
+
+fn find<'a>(
+    n: u32,
+    filled: &'a [u32; 32],
+    values: &'a [u32; 1024],
+    processes: [Process; 32],
+    p: u32,
+) -> Found
+    ensures { λ r. ⌜ r ≡ foundOf (record { n = n; filled = now (filled .entry); values = now (values .entry); processes = processes }) p ⌝ }
+{
+    if !shape::shaped(n, filled, values, processes) {
+        return Found::Refused(Answer::NotShaped);
+    }
+    if !in_range(p, n) {
+        return Found::Refused(Answer::NoProcess);
+    }
+    let at = (p - 1) as usize;
+    Found::Record(processes[at])
+}
+
+// What 4, 5 and 6 leave after them: process p as it runs, or a refusal.
+pub enum Mover {
+    Running {
+        level: u32,
+        made: u32,
+        found: u32,
+        value: u32,
+    },
+    Refused(Answer),
+}
+
+fn find_running<'a>(
+    n: u32,
+    filled: &'a [u32; 32],
+    values: &'a [u32; 1024],
+    processes: [Process; 32],
+    p: u32,
+) -> Mover
+    ensures { λ r. ⌜ r ≡ moverOf (record { n = n; filled = now (filled .entry); values = now (values .entry); processes = processes }) p ⌝ }
+{
+    match find(n, filled, values, processes, p) {
+        Found::Refused(answer) => Mover::Refused(answer),
+        Found::Record(process) => as_it_runs(process),
+    }
+}
+
+fn as_it_runs(process: Process) -> Mover
+    ensures { λ r. ⌜ r ≡ moverAt process ⌝ }
+{
+    let stage = process.stage;
+    match stage {
+        Stage::Absent => Mover::Refused(Answer::NeverEntered),
+        Stage::Running { level, made, found } => Mover::Running {
+            level,
+            made,
+            found,
+            value: process.value,
+        },
+        Stage::Finished { level: _, view: _ } => Mover::Refused(Answer::HasFinished),
+        Stage::Crashed {
+            level: _,
+            made: _,
+            found: _,
+        } => Mover::Refused(Answer::HasCrashed),
+    }
+}
+
 // Process p enters with value v (rule 3); refuses 1, 2, 3.
 pub fn enter(mut m: Machine, p: u32, v: u32) -> Called
     ensures { λ r. ⌜ r ≡ enterOf m p v ⌝ }
 {
     let n = m.n;
     let processes = m.processes;
-    if !shape::shaped(n, &m.filled, &m.values, processes) {
-        return Called {
-            answer: Answer::NotShaped,
-            machine: m,
-        };
-    }
-    if !in_range(p, n) {
-        return Called {
-            answer: Answer::NoProcess,
-            machine: m,
-        };
-    }
-    let at = (p - 1) as usize;
-    let process = processes[at];
-    let stage = process.stage;
-    match stage {
-        Stage::Absent => {
-            m.processes[at] = Process {
-                stage: Stage::Running {
-                    level: n,
-                    made: 0,
-                    found: 0,
+    match find(n, &m.filled, &m.values, processes, p) {
+        Found::Refused(answer) => Called { answer, machine: m },
+        Found::Record(process) => {
+            let stage = process.stage;
+            match stage {
+                Stage::Absent => {
+                    m.processes[(p - 1) as usize] = Process {
+                        stage: Stage::Running {
+                            level: n,
+                            made: 0,
+                            found: 0,
+                        },
+                        value: v,
+                    };
+                    Called {
+                        answer: Answer::Done,
+                        machine: m,
+                    }
+                }
+                Stage::Running {
+                    level: _,
+                    made: _,
+                    found: _,
+                } => Called {
+                    answer: Answer::EnteredBefore,
+                    machine: m,
                 },
-                value: v,
-            };
-            Called {
-                answer: Answer::Done,
-                machine: m,
+                Stage::Finished { level: _, view: _ } => Called {
+                    answer: Answer::EnteredBefore,
+                    machine: m,
+                },
+                Stage::Crashed {
+                    level: _,
+                    made: _,
+                    found: _,
+                } => Called {
+                    answer: Answer::EnteredBefore,
+                    machine: m,
+                },
             }
         }
-        Stage::Running {
-            level: _,
-            made: _,
-            found: _,
-        } => Called {
-            answer: Answer::EnteredBefore,
-            machine: m,
-        },
-        Stage::Finished { level: _, view: _ } => Called {
-            answer: Answer::EnteredBefore,
-            machine: m,
-        },
-        Stage::Crashed {
-            level: _,
-            made: _,
-            found: _,
-        } => Called {
-            answer: Answer::EnteredBefore,
-            machine: m,
-        },
     }
 }
 
@@ -135,50 +199,24 @@ pub fn enter(mut m: Machine, p: u32, v: u32) -> Called
 pub fn crash(mut m: Machine, p: u32) -> Called
     ensures { λ r. ⌜ r ≡ crashOf m p ⌝ }
 {
-    let n = m.n;
     let processes = m.processes;
-    if !shape::shaped(n, &m.filled, &m.values, processes) {
-        return Called {
-            answer: Answer::NotShaped,
-            machine: m,
-        };
-    }
-    if !in_range(p, n) {
-        return Called {
-            answer: Answer::NoProcess,
-            machine: m,
-        };
-    }
-    let at = (p - 1) as usize;
-    let process = processes[at];
-    let stage = process.stage;
-    match stage {
-        Stage::Absent => Called {
-            answer: Answer::NeverEntered,
-            machine: m,
-        },
-        Stage::Running { level, made, found } => {
-            m.processes[at] = Process {
+    match find_running(m.n, &m.filled, &m.values, processes, p) {
+        Mover::Refused(answer) => Called { answer, machine: m },
+        Mover::Running {
+            level,
+            made,
+            found,
+            value,
+        } => {
+            m.processes[(p - 1) as usize] = Process {
                 stage: Stage::Crashed { level, made, found },
-                value: process.value,
+                value,
             };
             Called {
                 answer: Answer::Done,
                 machine: m,
             }
         }
-        Stage::Finished { level: _, view: _ } => Called {
-            answer: Answer::HasFinished,
-            machine: m,
-        },
-        Stage::Crashed {
-            level: _,
-            made: _,
-            found: _,
-        } => Called {
-            answer: Answer::HasCrashed,
-            machine: m,
-        },
     }
 }
 
@@ -230,28 +268,15 @@ pub fn step(mut m: Machine, p: u32) -> Called
 {
     let n = m.n;
     let processes = m.processes;
-    if !shape::shaped(n, &m.filled, &m.values, processes) {
-        return Called {
-            answer: Answer::NotShaped,
-            machine: m,
-        };
-    }
-    if !in_range(p, n) {
-        return Called {
-            answer: Answer::NoProcess,
-            machine: m,
-        };
-    }
-    let at = (p - 1) as usize;
-    let process = processes[at];
-    let stage = process.stage;
-    let value = process.value;
-    match stage {
-        Stage::Absent => Called {
-            answer: Answer::NeverEntered,
-            machine: m,
-        },
-        Stage::Running { level, made, found } => {
+    match find_running(n, &m.filled, &m.values, processes, p) {
+        Mover::Refused(answer) => Called { answer, machine: m },
+        Mover::Running {
+            level,
+            made,
+            found,
+            value,
+        } => {
+            let at = (p - 1) as usize;
             let row = (level - 1) as usize;
             let filled = m.filled[row];
             if made == 0 {
@@ -270,10 +295,9 @@ pub fn step(mut m: Machine, p: u32) -> Called
                     machine: m,
                 };
             }
-            let next = after_read(n, filled, level, made, found);
-            match next {
-                Next::To(to) => {
-                    m.processes[at] = Process { stage: to, value };
+            match after_read(n, filled, level, made, found) {
+                Next::To(stage) => {
+                    m.processes[at] = Process { stage, value };
                     Called {
                         answer: Answer::Done,
                         machine: m,
@@ -285,18 +309,6 @@ pub fn step(mut m: Machine, p: u32) -> Called
                 },
             }
         }
-        Stage::Finished { level: _, view: _ } => Called {
-            answer: Answer::HasFinished,
-            machine: m,
-        },
-        Stage::Crashed {
-            level: _,
-            made: _,
-            found: _,
-        } => Called {
-            answer: Answer::HasCrashed,
-            machine: m,
-        },
     }
 }
 
@@ -304,36 +316,19 @@ pub fn step(mut m: Machine, p: u32) -> Called
 pub fn finish(m: Machine, p: u32) -> Called
     ensures { λ r. ⌜ r ≡ finishOf m p ⌝ }
 {
-    let n = m.n;
     let processes = m.processes;
-    if !shape::shaped(n, &m.filled, &m.values, processes) {
-        return Called {
-            answer: Answer::NotShaped,
-            machine: m,
-        };
-    }
-    if !in_range(p, n) {
-        return Called {
-            answer: Answer::NoProcess,
-            machine: m,
-        };
-    }
-    let at = (p - 1) as usize;
-    let process = processes[at];
-    let stage = process.stage;
-    let value = process.value;
-    match stage {
-        Stage::Absent => Called {
-            answer: Answer::NeverEntered,
-            machine: m,
-        },
-        Stage::Running { level, made, found } => {
-            let end = alone::descend(&m.filled, p, level, made, found);
-            match end {
+    match find_running(m.n, &m.filled, &m.values, processes, p) {
+        Mover::Refused(answer) => Called { answer, machine: m },
+        Mover::Running {
+            level,
+            made,
+            found,
+            value,
+        } => {
+            match alone::descend(&m.filled, p, level, made, found) {
                 Landing::Lands { level: low, view } => {
-                    let top = alone::top_row(level, made);
-                    let mut next = alone::fill_down(m, p, value, top, low);
-                    next.processes[at] = Process {
+                    let mut next = alone::fill_down(m, p, value, alone::top_row(level, made), low);
+                    next.processes[(p - 1) as usize] = Process {
                         stage: Stage::Finished { level: low, view },
                         value,
                     };
@@ -348,18 +343,6 @@ pub fn finish(m: Machine, p: u32) -> Called
                 },
             }
         }
-        Stage::Finished { level: _, view: _ } => Called {
-            answer: Answer::HasFinished,
-            machine: m,
-        },
-        Stage::Crashed {
-            level: _,
-            made: _,
-            found: _,
-        } => Called {
-            answer: Answer::HasCrashed,
-            machine: m,
-        },
     }
 }
 
@@ -413,48 +396,45 @@ pub fn look(m: Machine, p: u32) -> Sight
 {
     let n = m.n;
     let processes = m.processes;
-    if !shape::shaped(n, &m.filled, &m.values, processes) {
-        return blind(Answer::NotShaped, Standing::Absent, 0, 0);
-    }
-    if !in_range(p, n) {
-        return blind(Answer::NoProcess, Standing::Absent, 0, 0);
-    }
-    let at = (p - 1) as usize;
-    let process = processes[at];
-    let stage = process.stage;
-    match stage {
-        Stage::Absent => blind(Answer::Done, Standing::Absent, 0, 0),
-        Stage::Running {
-            level,
-            made,
-            found: _,
-        } => blind(
-            Answer::Done,
-            Standing::Running,
-            level,
-            accesses(n, level, made),
-        ),
-        Stage::Finished { level, view } => {
-            let values = view_values(&m.values, level, view);
-            let made = accesses(n, level, n + 1);
-            Sight {
-                answer: Answer::Done,
-                standing: Standing::Finished,
-                level,
-                accesses: made,
-                view,
-                values,
+    match find(n, &m.filled, &m.values, processes, p) {
+        Found::Refused(answer) => blind(answer, Standing::Absent, 0, 0),
+        Found::Record(process) => {
+            let stage = process.stage;
+            match stage {
+                Stage::Absent => blind(Answer::Done, Standing::Absent, 0, 0),
+                Stage::Running {
+                    level,
+                    made,
+                    found: _,
+                } => blind(
+                    Answer::Done,
+                    Standing::Running,
+                    level,
+                    accesses(n, level, made),
+                ),
+                Stage::Finished { level, view } => {
+                    let values = view_values(&m.values, level, view);
+                    let made = accesses(n, level, n + 1);
+                    Sight {
+                        answer: Answer::Done,
+                        standing: Standing::Finished,
+                        level,
+                        accesses: made,
+                        view,
+                        values,
+                    }
+                }
+                Stage::Crashed {
+                    level,
+                    made,
+                    found: _,
+                } => blind(
+                    Answer::Done,
+                    Standing::Crashed,
+                    level,
+                    accesses(n, level, made),
+                ),
             }
         }
-        Stage::Crashed {
-            level,
-            made,
-            found: _,
-        } => blind(
-            Answer::Done,
-            Standing::Crashed,
-            level,
-            accesses(n, level, made),
-        ),
     }
 }

@@ -1,115 +1,66 @@
--- `crash` meets its contract: the tests of every call, then the stage.
-use mathlib.Core.Path.{sym, ap, _∙_}
-use borrow.Author.Tests.{not-true, not-false}
-use Rattle.rules.specs.declared.Stage.{Stage}
-use Rattle.rules.specs.State.{stageOf}
-use Rattle.rules.specs.Calls.{crashAt, crashOf}
-use Rattle.rules.specs.Statements.{Valid}
-use Rattle.rules.proofs.Laws.Did.{goes-on}
-use Rattle.machine.proofs.Tests.{unshaped, no-process, passed, place}
+-- `crash` meets its contract: refused as what was found says, or the stage stored.
+use mathlib.Core.Path.{refl, sym, ap, _∙_}
+use Prim.Native.Nat.{ℕ}
+use Rattle.rules.specs.declared.Stage.the-variants.{Crashed}
+use Rattle.rules.specs.State.{withProcess}
+use Rattle.rules.specs.Calls.{done, crashAt, crashOf}
+use Rattle.rules.proofs.Laws.Did.{crashes}
+use Rattle.machine.proofs.Tests.{refused-mover, Runs, runs, place}
 use borrow.Author.Needs.{needs}
 use Rattle.machine.proofs.crash.Statement.{statement}
 use Rattle.machine.proofs.crash.Tie as tie
 
-shaped-requires : tie.Need-shaped-requires
-shaped-requires c κs = search needs
+find-running-requires : tie.Need-find-running-requires
+find-running-requires c κs = search needs
+
+enum-known-answer : tie.Need-enum-known-answer
+enum-known-answer c = search needs
+
+enum-known-level : tie.Need-enum-known-level
+enum-known-level c = search needs
+
+-- process p as it runs
+at : (c : tie.After-known-told2) → Runs (c .before .before .before .before .before .before .before .before .args .t1) (c .before .before .before .before .before .before .before .before .args .p) (c .before .level .given .0 .0) (c .before .level .given .0 .1 .0)
+    (c .before .level .given .0 .1 .1 .0) (c .before .level .given .0 .1 .1 .1 .0)
+at c = runs _ _ _ _ _ _ (sym (c .before .before .before .find-running .ensures) ∙ c .before .level .given .1)
+
+sub-t18 : tie.Need-sub-t18
+sub-t18 c = at c .valid .low
+
+cast-t19 : tie.Need-cast-t19
+cast-t19 c = search needs
+
+mul-t20 : tie.Need-mul-t20
+mul-t20 c = search needs
+
+element-set-from-m : tie.Need-element-set-from-m
+element-set-from-m c = place (at c .valid)
 
 returns : tie.Need-returns
 unfolding crashOf
 returns c =
-    let a = c .before .before .before .before .before .before .args in
-    sym (unshaped (a .t1) (a .p) (crashAt (stageOf (a .t1) (a .p)) (a .t1) (a .p)) (sym (c .before .shaped .ensures) ∙ not-true _ (c .if1 .taken)))
-
-in-range-requires : tie.Need-in-range-requires
-in-range-requires c κs = search needs
+    let a = c .before .before .before .before .before .before .before .before .args in
+    sym (refused-mover (a .t1) (a .p) (c .before .answer .given .0 .0) (λ s. crashAt s (a .t1) (a .p)) (record { absent = refl; finished = λ x w. refl; crashed = λ x k f. refl })
+    (sym (c .before .before .before .find-running .ensures) ∙ c .before .answer .given .1))
 
 returns-2 : tie.Need-returns-2
-unfolding crashOf
 returns-2 c =
     let a = c .before .before .before .before .before .before .before .before .args in
-    sym (no-process (a .t1) (a .p) (crashAt (stageOf (a .t1) (a .p)) (a .t1) (a .p))
-    (sym (c .before .before .before .shaped .ensures) ∙ not-false _ (c .before .before .if1 .left))
-    (sym (c .before .in-range .ensures) ∙ not-true _ (c .if2 .taken)))
-
--- past both tests
-valid : (c : tie.Else2) → Valid (c .before .before .before .before .before .before .before .before .args .t1) (c .before .before .before .before .before .before .before .before .args .p)
-valid c =
-    passed _ _ (sym (c .before .before .before .shaped .ensures) ∙ not-false _ (c .before .before .if1 .left))
-    (sym (c .before .in-range .ensures) ∙ not-false _ (c .if2 .left))
-
-sub-at : tie.Need-sub-at
-sub-at c = valid c .low
-
-cast-at : tie.Need-cast-at
-cast-at c = search needs
-
-mul-process : tie.Need-mul-process
-mul-process c = search needs
-
-array-copy-out-process : tie.Need-array-copy-out-process
-array-copy-out-process c = place (valid c)
-
-enum-told : tie.Need-enum-told
-enum-told c = search needs
-
-enum-known-stage : tie.Need-enum-known-stage
-enum-known-stage c = search needs
-
-mul-t31 : tie.Need-mul-t31
-mul-t31 c = search needs
-
-element-set-from-m : tie.Need-element-set-from-m
-element-set-from-m c = place (valid (c .before .before .before .before))
-
-enum-told-2 : tie.Need-enum-told-2
-enum-told-2 c = search needs
-
-enum-told-3 : tie.Need-enum-told-3
-enum-told-3 c = search needs
-
-returns-3 : tie.Need-returns-3
-unfolding crashOf
-returns-3 c =
-    let a = c .before .before .before .before .before .before .before .before .before .before .before .args in
-    sym (goes-on (a .t1) (a .p) (valid (c .before .before .before)) (crashAt (stageOf (a .t1) (a .p)) (a .t1) (a .p)) ∙ ap (λ (s : Stage). crashAt s (a .t1) (a .p)) (c .enum-told .given .1))
-
-returns-4 : tie.Need-returns-4
-unfolding crashOf
-returns-4 c =
-    let a = c .before .before .before .before .before .before .before .before .before .before .before .before .args in
-    sym (goes-on (a .t1) (a .p) (valid (c .before .before .before .before)) (crashAt (stageOf (a .t1) (a .p)) (a .t1) (a .p)) ∙ ap (λ (s : Stage). crashAt s (a .t1) (a .p)) (c .before .stage .given .1))
-
-returns-5 : tie.Need-returns-5
-unfolding crashOf
-returns-5 c =
-    let a = c .before .before .before .before .before .before .before .before .before .before .before .args in
-    sym (goes-on (a .t1) (a .p) (valid (c .before .before .before)) (crashAt (stageOf (a .t1) (a .p)) (a .t1) (a .p)) ∙ ap (λ (s : Stage). crashAt s (a .t1) (a .p)) (c .enum-told2 .given .1))
-
-returns-6 : tie.Need-returns-6
-unfolding crashOf
-returns-6 c =
-    let a = c .before .before .before .before .before .before .before .before .before .before .before .args in
-    sym (goes-on (a .t1) (a .p) (valid (c .before .before .before)) (crashAt (stageOf (a .t1) (a .p)) (a .t1) (a .p)) ∙ ap (λ (s : Stage). crashAt s (a .t1) (a .p)) (c .enum-told3 .given .1))
+    let g = c .before .level .given .0 in
+    let r = at c in
+    ap (λ (v : ℕ). done (withProcess (a .t1) (a .p) (record { stage = Crashed (g .0) (g .1 .0) (g .1 .1 .0); value = v }))) (sym (r .value))
+    ∙ sym (crashes (a .t1) (a .p) (r .valid) (g .0) (g .1 .0) (g .1 .1 .0) (r .stage))
 
 pub crash-spec : {M : Type 1} → statement M
 crash-spec =
     tie.close
     (tie.spec
-    shaped-requires
-    returns
-    in-range-requires
-    returns-2
-    sub-at
-    cast-at
-    mul-process
-    array-copy-out-process
-    enum-told
-    enum-known-stage
-    mul-t31
+    find-running-requires
+    enum-known-answer
+    enum-known-level
+    sub-t18
+    cast-t19
+    mul-t20
     element-set-from-m
-    enum-told-2
-    enum-told-3
-    returns-3
-    returns-4
-    returns-5
-    returns-6)
+    returns
+    returns-2)

@@ -1,60 +1,43 @@
--- `enter` meets its contract: the tests of every call, then the stage.
-use mathlib.Core.Path.{sym, ap, _∙_}
-use borrow.Author.Tests.{not-true, not-false}
+-- `enter` meets its contract: refused as what was found says, then the stage.
+use mathlib.Core.Path.{_≡_, sym, ap, _∙_}
 use Rattle.rules.specs.declared.Stage.{Stage}
-use Rattle.rules.specs.State.{stageOf}
+use Rattle.rules.specs.declared.Process.{Process}
+use Rattle.rules.specs.State.{processOf, stageOf}
 use Rattle.rules.specs.Calls.{enterAt, enterOf}
 use Rattle.rules.specs.Statements.{Valid}
 use Rattle.rules.proofs.Laws.Did.{goes-on}
-use Rattle.machine.proofs.Tests.{unshaped, no-process, passed, place}
+use Rattle.machine.proofs.Tests.{refused-call, found-valid, place}
 use borrow.Author.Needs.{needs}
 use Rattle.machine.proofs.enter.Statement.{statement}
 use Rattle.machine.proofs.enter.Tie as tie
 
-shaped-requires : tie.Need-shaped-requires
-shaped-requires c κs = search needs
+find-requires : tie.Need-find-requires
+find-requires c κs = search needs
 
-returns : tie.Need-returns
-unfolding enterOf
-returns c =
-    let a = c .before .before .before .before .before .before .args in
-    sym (unshaped (a .t1) (a .p) (enterAt (stageOf (a .t1) (a .p)) (a .t1) (a .p) (a .v)) (sym (c .before .shaped .ensures) ∙ not-true _ (c .if1 .taken)))
+enum-known-answer : tie.Need-enum-known-answer
+enum-known-answer c = search needs
 
-in-range-requires : tie.Need-in-range-requires
-in-range-requires c κs = search needs
-
-returns-2 : tie.Need-returns-2
-unfolding enterOf
-returns-2 c =
-    let a = c .before .before .before .before .before .before .before .before .args in
-    sym (no-process (a .t1) (a .p) (enterAt (stageOf (a .t1) (a .p)) (a .t1) (a .p) (a .v))
-    (sym (c .before .before .before .shaped .ensures) ∙ not-false _ (c .before .before .if1 .left))
-    (sym (c .before .in-range .ensures) ∙ not-true _ (c .if2 .taken)))
-
--- past both tests
-valid : (c : tie.Else2) → Valid (c .before .before .before .before .before .before .before .before .args .t1) (c .before .before .before .before .before .before .before .before .args .p)
-valid c = passed _ _ (sym (c .before .before .before .shaped .ensures) ∙ not-false _ (c .before .before .if1 .left)) (sym (c .before .in-range .ensures) ∙ not-false _ (c .if2 .left))
-
-sub-at : tie.Need-sub-at
-sub-at c = valid c .low
-
-cast-at : tie.Need-cast-at
-cast-at c = search needs
-
-mul-process : tie.Need-mul-process
-mul-process c = search needs
-
-array-copy-out-process : tie.Need-array-copy-out-process
-array-copy-out-process c = place (valid c)
+enum-known-process : tie.Need-enum-known-process
+enum-known-process c = search needs
 
 enum-told : tie.Need-enum-told
 enum-told c = search needs
 
-mul-t27 : tie.Need-mul-t27
-mul-t27 c = search needs
+-- the process was found
+valid : (c : tie.After-known-told2) → Valid (c .before .before .before .before .before .before .before .before .args .t1) (c .before .before .before .before .before .before .before .before .args .p) × (processOf (c .before .before .before .before .before .before .before .before .args .t1) (c .before .before .before .before .before .before .before .before .args .p) ≡ c .before .process .given .0 .0)
+valid c = found-valid _ _ _ (sym (c .before .before .before .find .ensures) ∙ c .before .process .given .1)
+
+sub-t18 : tie.Need-sub-t18
+sub-t18 c = valid (c .before .before) .0 .low
+
+cast-t19 : tie.Need-cast-t19
+cast-t19 c = search needs
+
+mul-t20 : tie.Need-mul-t20
+mul-t20 c = search needs
 
 element-set-from-m : tie.Need-element-set-from-m
-element-set-from-m c = place (valid (c .before .before .before))
+element-set-from-m c = place (valid (c .before .before) .0)
 
 enum-told-2 : tie.Need-enum-told-2
 enum-told-2 c = search needs
@@ -65,53 +48,62 @@ enum-told-3 c = search needs
 enum-told-4 : tie.Need-enum-told-4
 enum-told-4 c = search needs
 
+returns : tie.Need-returns
+unfolding enterOf
+returns c =
+    let a = c .before .before .before .before .before .before .before .before .args in
+    sym (refused-call (a .t1) (a .p) (c .before .answer .given .0 .0) (enterAt (stageOf (a .t1) (a .p)) (a .t1) (a .p) (a .v))
+    (sym (c .before .before .before .find .ensures) ∙ c .before .answer .given .1))
+
+returns-2 : tie.Need-returns-2
+unfolding enterOf
+returns-2 c =
+    let a = c .before .before .before .before .before .before .before .before .before .before .args in
+    let v = valid (c .before .before) in
+    sym (goes-on (a .t1) (a .p) (v .0) (enterAt (stageOf (a .t1) (a .p)) (a .t1) (a .p) (a .v))
+    ∙ ap (λ (s : Stage). enterAt s (a .t1) (a .p) (a .v)) (ap (λ (P : Process). P .stage) (v .1) ∙ c .enum-told .given .1))
+
 returns-3 : tie.Need-returns-3
 unfolding enterOf
 returns-3 c =
-    let a = c .before .before .before .before .before .before .before .before .before .before .before .args in
-    sym (goes-on (a .t1) (a .p) (valid (c .before .before .before)) (enterAt (stageOf (a .t1) (a .p)) (a .t1) (a .p) (a .v))
-    ∙ ap (λ (s : Stage). enterAt s (a .t1) (a .p) (a .v)) (c .enum-told .given .1))
+    let a = c .before .before .before .before .before .before .before .before .before .before .args in
+    let v = valid (c .before .before) in
+    sym (goes-on (a .t1) (a .p) (v .0) (enterAt (stageOf (a .t1) (a .p)) (a .t1) (a .p) (a .v))
+    ∙ ap (λ (s : Stage). enterAt s (a .t1) (a .p) (a .v)) (ap (λ (P : Process). P .stage) (v .1) ∙ c .enum-told2 .given .1))
 
 returns-4 : tie.Need-returns-4
 unfolding enterOf
 returns-4 c =
-    let a = c .before .before .before .before .before .before .before .before .before .before .before .args in
-    sym (goes-on (a .t1) (a .p) (valid (c .before .before .before)) (enterAt (stageOf (a .t1) (a .p)) (a .t1) (a .p) (a .v))
-    ∙ ap (λ (s : Stage). enterAt s (a .t1) (a .p) (a .v)) (c .enum-told2 .given .1))
+    let a = c .before .before .before .before .before .before .before .before .before .before .args in
+    let v = valid (c .before .before) in
+    sym (goes-on (a .t1) (a .p) (v .0) (enterAt (stageOf (a .t1) (a .p)) (a .t1) (a .p) (a .v))
+    ∙ ap (λ (s : Stage). enterAt s (a .t1) (a .p) (a .v)) (ap (λ (P : Process). P .stage) (v .1) ∙ c .enum-told3 .given .1))
 
 returns-5 : tie.Need-returns-5
 unfolding enterOf
 returns-5 c =
-    let a = c .before .before .before .before .before .before .before .before .before .before .before .args in
-    sym (goes-on (a .t1) (a .p) (valid (c .before .before .before)) (enterAt (stageOf (a .t1) (a .p)) (a .t1) (a .p) (a .v))
-    ∙ ap (λ (s : Stage). enterAt s (a .t1) (a .p) (a .v)) (c .enum-told3 .given .1))
-
-returns-6 : tie.Need-returns-6
-unfolding enterOf
-returns-6 c =
-    let a = c .before .before .before .before .before .before .before .before .before .before .before .args in
-    sym (goes-on (a .t1) (a .p) (valid (c .before .before .before)) (enterAt (stageOf (a .t1) (a .p)) (a .t1) (a .p) (a .v))
-    ∙ ap (λ (s : Stage). enterAt s (a .t1) (a .p) (a .v)) (c .enum-told4 .given .1))
+    let a = c .before .before .before .before .before .before .before .before .before .before .args in
+    let v = valid (c .before .before) in
+    sym (goes-on (a .t1) (a .p) (v .0) (enterAt (stageOf (a .t1) (a .p)) (a .t1) (a .p) (a .v))
+    ∙ ap (λ (s : Stage). enterAt s (a .t1) (a .p) (a .v)) (ap (λ (P : Process). P .stage) (v .1) ∙ c .enum-told4 .given .1))
 
 pub enter-spec : {M : Type 1} → statement M
 enter-spec =
     tie.close
     (tie.spec
-    shaped-requires
-    returns
-    in-range-requires
-    returns-2
-    sub-at
-    cast-at
-    mul-process
-    array-copy-out-process
+    find-requires
+    enum-known-answer
+    enum-known-process
     enum-told
-    mul-t27
+    sub-t18
+    cast-t19
+    mul-t20
     element-set-from-m
     enum-told-2
     enum-told-3
     enum-told-4
+    returns
+    returns-2
     returns-3
     returns-4
-    returns-5
-    returns-6)
+    returns-5)

@@ -1,78 +1,44 @@
--- `step` meets its contract: the tests of every call, then the stage; a running process writes, or goes where its read leads.
-use mathlib.Core.Path.{sym, ap, _∙_}
-use Prim.Native.Nat.{ℕ, _+_, _-_, _*_, _≤_, _<_}
+-- `step` meets its contract: refused as what was found says; a running process writes, or goes where its read leads.
+use mathlib.Core.Path.{refl, sym, ap, ap₂, _∙_}
+use Prim.Native.Nat.{ℕ, _+_, _-_, _*_, _≤_}
 use native.Mathlib.Omega.{arith}
-use borrow.Author.Tests.{not-true, not-false}
 use lib.ListN.{set}
-use Rattle.rules.specs.declared.Stage.{Stage}
 use Rattle.rules.specs.declared.Stage.the-variants.{Running}
 use Rattle.rules.specs.declared.Called.{Called}
-use Rattle.rules.specs.State.{stageOf, valueOf, rowOf}
-use Rattle.rules.specs.Shape.{Going}
+use Rattle.rules.specs.State.{withProcess}
 use Rattle.rules.specs.Calls.{done, access, stepAt, stepOf}
-use Rattle.rules.specs.Statements.{Valid}
-use Rattle.rules.proofs.Laws.Shape.{shaped-record}
-use Rattle.rules.proofs.Laws.Did.{goes-on, running, steps, access-write}
-use Rattle.machine.proofs.Tests.{unshaped, no-process, passed, place, arrive, access-reads}
+use Rattle.rules.proofs.Laws.Did.{steps, access-write}
+use Rattle.machine.proofs.Tests.{refused-mover, Runs, runs, running-low, place, arrive, access-reads}
 use borrow.Author.Needs.{needs}
 use Rattle.machine.proofs.step.Statement.{statement}
 use Rattle.machine.proofs.step.Tie as tie
 
-shaped-requires : tie.Need-shaped-requires
-shaped-requires c κs = search needs
+find-running-requires : tie.Need-find-running-requires
+find-running-requires c κs = search needs
 
-returns : tie.Need-returns
-unfolding stepOf
-returns c =
-    let a = c .before .before .before .before .before .before .args in
-    sym (unshaped (a .t1) (a .p) (stepAt (stageOf (a .t1) (a .p)) (a .t1) (a .p)) (sym (c .before .shaped .ensures) ∙ not-true _ (c .if1 .taken)))
+enum-known-answer : tie.Need-enum-known-answer
+enum-known-answer c = search needs
 
-in-range-requires : tie.Need-in-range-requires
-in-range-requires c κs = search needs
+enum-known-level : tie.Need-enum-known-level
+enum-known-level c = search needs
 
-returns-2 : tie.Need-returns-2
-unfolding stepOf
-returns-2 c =
-    let a = c .before .before .before .before .before .before .before .before .args in
-    sym (no-process (a .t1) (a .p) (stepAt (stageOf (a .t1) (a .p)) (a .t1) (a .p))
-    (sym (c .before .before .before .shaped .ensures) ∙ not-false _ (c .before .before .if1 .left))
-    (sym (c .before .in-range .ensures) ∙ not-true _ (c .if2 .taken)))
+-- process p as it runs
+at : (c : tie.After-known-told2) → Runs (c .before .before .before .before .before .before .before .before .args .t1) (c .before .before .before .before .before .before .before .before .args .p) (c .before .level .given .0 .0) (c .before .level .given .0 .1 .0)
+    (c .before .level .given .0 .1 .1 .0) (c .before .level .given .0 .1 .1 .1 .0)
+at c = runs _ _ _ _ _ _ (sym (c .before .before .before .find-running .ensures) ∙ c .before .level .given .1)
 
--- past both tests
-valid : (c : tie.Else2) → Valid (c .before .before .before .before .before .before .before .before .args .t1) (c .before .before .before .before .before .before .before .before .args .p)
-valid c =
-    passed _ _ (sym (c .before .before .before .shaped .ensures) ∙ not-false _ (c .before .before .if1 .left))
-    (sym (c .before .in-range .ensures) ∙ not-false _ (c .if2 .left))
+-- its level has a row
+row : (c : tie.After-known-told2) → (1 ≤ c .before .level .given .0 .0) × (c .before .level .given .0 .0 ≤ 32)
+row c = running-low _ _ _ _ _ _ (at c)
 
 sub-at : tie.Need-sub-at
-sub-at c = valid c .low
+sub-at c = at c .valid .low
 
 cast-at : tie.Need-cast-at
 cast-at c = search needs
 
-mul-process : tie.Need-mul-process
-mul-process c = search needs
-
-array-copy-out-process : tie.Need-array-copy-out-process
-array-copy-out-process c = place (valid c)
-
-enum-told : tie.Need-enum-told
-enum-told c = search needs
-
-enum-known-stage : tie.Need-enum-known-stage
-enum-known-stage c = search needs
-
--- a running process stands at a level that has a row
-level-low : (c : tie.After-known-told) → (1 ≤ c .before .stage .given .0 .0) × (c .before .stage .given .0 .0 - 1 < 32)
-level-low c =
-    let a = c .before .before .before .before .before .before .before .before .before .before .before .before .args in
-    let v = valid (c .before .before .before .before) in
-    let g : Going (a .t1 .n) (rowOf (a .t1)) (c .before .stage .given .0 .0) (c .before .stage .given .0 .1 .0) (c .before .stage .given .0 .1 .1 .0)
-    = running (a .t1) (a .p) v _ _ _ (c .before .stage .given .1) in
-    (g .low, omega (arith, g .low, g .high, shaped-record (a .t1) (v .shape) .most))
-
 sub-row : tie.Need-sub-row
-sub-row c = level-low c .0
+sub-row c = row c .0
 
 cast-row : tie.Need-cast-row
 cast-row c = search needs
@@ -81,7 +47,7 @@ mul-filled : tie.Need-mul-filled
 mul-filled c = search needs
 
 element-copy-out-filled : tie.Need-element-copy-out-filled
-element-copy-out-filled c = level-low c .1
+element-copy-out-filled c = omega (arith, row c)
 
 plus-requires : tie.Need-plus-requires
 plus-requires c κs = search needs
@@ -90,7 +56,7 @@ mul-m : tie.Need-mul-m
 mul-m c = search needs
 
 element-write-m : tie.Need-element-write-m
-element-write-m c = level-low (c .before .before .before) .1
+element-write-m c = omega (arith, row (c .before .before .before))
 
 mul-m-2 : tie.Need-mul-m-2
 mul-m-2 c = search needs
@@ -102,105 +68,85 @@ mul-m-3 : tie.Need-mul-m-3
 mul-m-3 c = search needs
 
 element-write-m-2 : tie.Need-element-write-m-2
-element-write-m-2 c =
-    let l = level-low (c .before .before .before) .1 in
-    let q = place (valid (c .before .before .before .before .before .before .before)) in
-    omega arith
+element-write-m-2 c = omega (arith, row (c .before .before .before), place (at (c .before .before .before) .valid))
 
-mul-t40 : tie.Need-mul-t40
-mul-t40 c = search needs
+mul-t26 : tie.Need-mul-t26
+mul-t26 c = search needs
 
 element-set-from-m : tie.Need-element-set-from-m
-element-set-from-m c = place (valid (c .before .before .before .before .before .before .before))
+element-set-from-m c = place (at (c .before .before .before) .valid)
 
-returns-3 : tie.Need-returns-3
-returns-3 c =
-    let a = c .before .before .before .before .before .before .before .before .before .before .before .before .before .before .before .args in
+returns : tie.Need-returns
+returns c =
+    let a = c .before .before .before .before .before .before .before .before .before .before .before .args in
     let m = a .t1 in
-    let g = c .before .before .before .before .stage .given in
-    let x : ℕ = g .0 .0 in
-    let f : ℕ = g .0 .1 .1 .0 in
-    ap {B = Called}
-    (λ (s : ℕ).
+    let g = c .before .before .before .before .level .given .0 in
+    let r = at (c .before .before .before) in
+    let x : ℕ = g .0 in
+    let f : ℕ = g .1 .1 .0 in
+    ap₂ {C = Called}
+    (λ (s v : ℕ).
     done
     (record {
       n = m .n;
       filled = set (m .filled) (x - 1) s;
-      values = set (m .values) (32 * (x - 1) + (a .p - 1)) (valueOf m (a .p));
-      processes = set (m .processes) (a .p - 1) (record { stage = Running x 1 f; value = valueOf m (a .p) });
+      values = set (m .values) (32 * (x - 1) + (a .p - 1)) v;
+      processes = set (m .processes) (a .p - 1) (record { stage = Running x 1 f; value = v });
     }))
     (c .plus .ensures)
-    ∙ sym (steps m (a .p) (valid (c .before .before .before .before .before .before .before)) x (g .0 .1 .0) f (g .1) ∙ ap (λ (k : ℕ). access m (a .p) x k f) (c .before .if3 .taken) ∙ access-write m (a .p) x f)
+    (sym (r .value))
+    ∙ sym (steps m (a .p) (r .valid) x (g .1 .0) f (r .stage) ∙ ap (λ (k : ℕ). access m (a .p) x k f) (c .before .if1 .taken) ∙ access-write m (a .p) x f)
 
 after-read-requires : tie.Need-after-read-requires
-after-read-requires c κs = level-low (c .before .before) .0
+after-read-requires c κs = row (c .before .before) .0
 
-enum-known-next : tie.Need-enum-known-next
-enum-known-next c = search needs
+enum-known-stage : tie.Need-enum-known-stage
+enum-known-stage c = search needs
 
-mul-t55 : tie.Need-mul-t55
-mul-t55 c = search needs
+mul-t42 : tie.Need-mul-t42
+mul-t42 c = search needs
 
 element-set-from-m-2 : tie.Need-element-set-from-m-2
-element-set-from-m-2 c = place (valid (c .before .before .before .before .before .before .before .before .before .before))
+element-set-from-m-2 c = place (at (c .before .before .before .before .before .before) .valid)
 
-enum-told-2 : tie.Need-enum-told-2
-enum-told-2 c = search needs
+enum-told : tie.Need-enum-told
+enum-told c = search needs
 
-enum-told-3 : tie.Need-enum-told-3
-enum-told-3 c = search needs
+returns-2 : tie.Need-returns-2
+unfolding stepOf
+returns-2 c =
+    let a = c .before .before .before .before .before .before .before .before .args in
+    sym (refused-mover (a .t1) (a .p) (c .before .answer .given .0 .0) (λ s. stepAt s (a .t1) (a .p)) (record { absent = refl; finished = λ x w. refl; crashed = λ x k f. refl })
+    (sym (c .before .before .before .find-running .ensures) ∙ c .before .answer .given .1))
 
-enum-told-4 : tie.Need-enum-told-4
-enum-told-4 c = search needs
+returns-3 : tie.Need-returns-3
+returns-3 c =
+    let a = c .before .before .before .before .before .before .before .before .before .before .before .before .before .before .args in
+    let g = c .before .before .before .before .before .before .before .level .given .0 in
+    let r = at (c .before .before .before .before .before .before) in
+    ap (λ (v : ℕ). done (withProcess (a .t1) (a .p) (record { stage = c .before .stage .given .0 .0; value = v }))) (sym (r .value))
+    ∙ sym (steps (a .t1) (a .p) (r .valid) (g .0) (g .1 .0) (g .1 .1 .0) (r .stage)
+    ∙ access-reads (a .t1) (a .p) (g .0) (g .1 .0) (g .1 .1 .0) (c .before .before .before .before .if1 .left)
+    ∙ ap (arrive (a .t1) (a .p)) (sym (c .before .before .before .after-read .ensures) ∙ c .before .stage .given .1))
 
 returns-4 : tie.Need-returns-4
-unfolding stepOf
 returns-4 c =
-    let a = c .before .before .before .before .before .before .before .before .before .before .before .args in
-    sym (goes-on (a .t1) (a .p) (valid (c .before .before .before)) (stepAt (stageOf (a .t1) (a .p)) (a .t1) (a .p)) ∙ ap (λ (s : Stage). stepAt s (a .t1) (a .p)) (c .enum-told .given .1))
-
-returns-5 : tie.Need-returns-5
-returns-5 c =
-    let a = c .before .before .before .before .before .before .before .before .before .before .before .before .before .before .before .before .before .before .args in
-    let g = c .before .before .before .before .before .before .before .stage .given in
-    sym (steps (a .t1) (a .p) (valid (c .before .before .before .before .before .before .before .before .before .before)) (g .0 .0) (g .0 .1 .0) (g .0 .1 .1 .0) (g .1)
-    ∙ access-reads (a .t1) (a .p) (g .0 .0) (g .0 .1 .0) (g .0 .1 .1 .0) (c .before .before .before .before .if3 .left)
-    ∙ ap (arrive (a .t1) (a .p)) (sym (c .before .before .before .after-read .ensures) ∙ c .before .next .given .1))
-
-returns-6 : tie.Need-returns-6
-returns-6 c =
-    let a = c .before .before .before .before .before .before .before .before .before .before .before .before .before .before .before .before .before .args in
-    let g = c .before .before .before .before .before .before .stage .given in
-    sym (steps (a .t1) (a .p) (valid (c .before .before .before .before .before .before .before .before .before)) (g .0 .0) (g .0 .1 .0) (g .0 .1 .1 .0) (g .1)
-    ∙ access-reads (a .t1) (a .p) (g .0 .0) (g .0 .1 .0) (g .0 .1 .1 .0) (c .before .before .before .if3 .left)
-    ∙ ap (arrive (a .t1) (a .p)) (sym (c .before .before .after-read .ensures) ∙ c .enum-told2 .given .1))
-
-returns-7 : tie.Need-returns-7
-unfolding stepOf
-returns-7 c =
-    let a = c .before .before .before .before .before .before .before .before .before .before .before .args in
-    sym (goes-on (a .t1) (a .p) (valid (c .before .before .before)) (stepAt (stageOf (a .t1) (a .p)) (a .t1) (a .p)) ∙ ap (λ (s : Stage). stepAt s (a .t1) (a .p)) (c .enum-told3 .given .1))
-
-returns-8 : tie.Need-returns-8
-unfolding stepOf
-returns-8 c =
-    let a = c .before .before .before .before .before .before .before .before .before .before .before .args in
-    sym (goes-on (a .t1) (a .p) (valid (c .before .before .before)) (stepAt (stageOf (a .t1) (a .p)) (a .t1) (a .p)) ∙ ap (λ (s : Stage). stepAt s (a .t1) (a .p)) (c .enum-told4 .given .1))
+    let a = c .before .before .before .before .before .before .before .before .before .before .before .before .before .args in
+    let g = c .before .before .before .before .before .before .level .given .0 in
+    let r = at (c .before .before .before .before .before) in
+    sym (steps (a .t1) (a .p) (r .valid) (g .0) (g .1 .0) (g .1 .1 .0) (r .stage)
+    ∙ access-reads (a .t1) (a .p) (g .0) (g .1 .0) (g .1 .1 .0) (c .before .before .before .if1 .left)
+    ∙ ap (arrive (a .t1) (a .p)) (sym (c .before .before .after-read .ensures) ∙ c .enum-told .given .1))
 
 pub step-spec : {M : Type 1} → statement M
 step-spec =
     tie.close
     (tie.spec
-    shaped-requires
-    returns
-    in-range-requires
-    returns-2
+    find-running-requires
+    enum-known-answer
+    enum-known-level
     sub-at
     cast-at
-    mul-process
-    array-copy-out-process
-    enum-told
-    enum-known-stage
     sub-row
     cast-row
     mul-filled
@@ -212,18 +158,14 @@ step-spec =
     add-m
     mul-m-3
     element-write-m-2
-    mul-t40
+    mul-t26
     element-set-from-m
-    returns-3
+    returns
     after-read-requires
-    enum-known-next
-    mul-t55
+    enum-known-stage
+    mul-t42
     element-set-from-m-2
-    enum-told-2
-    enum-told-3
-    enum-told-4
-    returns-4
-    returns-5
-    returns-6
-    returns-7
-    returns-8)
+    enum-told
+    returns-2
+    returns-3
+    returns-4)

@@ -49,7 +49,7 @@ enters : (m : Machine) (p : ℕ) → Valid m p → (v : ℕ) → stageOf m p ≡
 unfolding enterOf
 enters m p h v e = goes-on m p h (enterAt (stageOf m p) m p v) ∙ ap (λ s. enterAt s m p v) e
 
-crashes : (m : Machine) (p : ℕ) → Valid m p → (x k f : ℕ) → stageOf m p ≡ Running x k f → crashOf m p ≡ done (withStage m p (Crashed x k f))
+pub crashes : (m : Machine) (p : ℕ) → Valid m p → (x k f : ℕ) → stageOf m p ≡ Running x k f → crashOf m p ≡ done (withStage m p (Crashed x k f))
 unfolding crashOf
 crashes m p h x k f e = goes-on m p h (crashAt (stageOf m p) m p) ∙ ap (λ s. crashAt s m p) e
 

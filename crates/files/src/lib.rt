@@ -1,0 +1,296 @@
+// What both kinds of file share (document 01, "Files"): marks, little-endian numbers, records, and the numbers that a file call answers with.
+ghost use mathlib.Core.Path.{_≡_};
+ghost use Prim.Native.Nat.{_<_};
+ghost use Rattle.files.specs.Numbers.{numberOf};
+ghost use Rattle.files.specs.Records.{byteAt, wordAt, isMark, markOf, markAt, fits, headerBy, headerOf, orderBy, orderAt, viewBy, viewAt};
+
+// What a file call answers; `numberOf` of specs/Numbers gives document 01's number for each. A record cut off by the end of the file is 11
+// wherever it breaks off, and the two places are kept apart.
+pub enum FileAnswer {
+    Whole,
+    OutOfRange,
+    NotHeader,
+    OtherMark,
+    MarkCut,
+    BodyCut,
+    HeaderAgain,
+    BudgetSpent,
+    NoProcess,
+    SecondView,
+    NamesAbove,
+}
+
+// What stands at a record's place: nothing, one byte, or a mark.
+pub enum Mark {
+    End,
+    Cut,
+    Header,
+    Enter,
+    Step,
+    Crash,
+    View,
+    Other,
+}
+
+// The first record of both kinds.
+pub enum Header {
+    Of(u32),
+    Fault(FileAnswer),
+}
+
+// A later record of an order file.
+pub enum Order {
+    End,
+    Fault(FileAnswer),
+    Enter { process: u32, value: u32 },
+    Step { process: u32 },
+    Crash { process: u32 },
+}
+
+// A later record of a view file, up to its values.
+pub enum ViewRecord {
+    End,
+    Fault(FileAnswer),
+    View { process: u32, set: u32 },
+}
+
+// The views of a file.
+pub struct Views {
+    pub n: u32,
+    // the set of processes that have a view
+    pub own: u32,
+    // process i's view at i - 1: the set of processes that it names
+    pub seen: [u32; 32],
+    // the value that process i's view gives to process j at 32(i - 1) + (j - 1); 0 beside a process that it does not name
+    pub values: [u32; 1024],
+}
+
+// What reading a view file answers.
+pub struct ViewsRead {
+    pub answer: FileAnswer,
+    pub place: usize,
+    pub views: Views,
+}
+
+// A byte as a number.
+fn wide(b: u8) -> u32
+    ensures { λ r. ⌜ r ≡ b ⌝ }
+{
+    b as u32
+}
+
+// The byte at a place, 0 past the end.
+fn byte_at(s: &[u8], at: usize) -> u32
+    ensures { λ r. ⌜ r ≡ byteAt (now (s .entry)) at ⌝ }
+    ensures small { λ r. ⌜ r < 256 ⌝ }
+{
+    if at < s.len() { wide(s[at]) } else { 0 }
+}
+
+// The little-endian number of four bytes at a place, where bytes past the end count as 0.
+pub fn word_at(s: &[u8], at: usize) -> u32
+    ensures { λ r. ⌜ r ≡ wordAt (now (s .entry)) at ⌝ }
+{
+    if at < s.len() {
+        byte_at(s, at)
+            + 256 * byte_at(s, at + 1)
+            + 65536 * byte_at(s, at + 2)
+            + 16777216 * byte_at(s, at + 3)
+    } else {
+        0
+    }
+}
+
+// The two bytes are a and b.
+fn is_mark(a: u32, b: u32, x: u32, y: u32) -> bool
+    ensures { λ r. ⌜ r ≡ isMark a b x y ⌝ }
+{
+    x == a && y == b
+}
+
+// The mark that two bytes are.
+fn mark_of(x: u32, y: u32) -> Mark
+    ensures { λ r. ⌜ r ≡ markOf x y ⌝ }
+{
+    if is_mark(77, 78, x, y) {
+        return Mark::Header;
+    }
+    if is_mark(69, 78, x, y) {
+        return Mark::Enter;
+    }
+    if is_mark(83, 84, x, y) {
+        return Mark::Step;
+    }
+    if is_mark(67, 82, x, y) {
+        return Mark::Crash;
+    }
+    if is_mark(86, 87, x, y) {
+        return Mark::View;
+    }
+    Mark::Other
+}
+
+// What stands at a record's place.
+fn mark_at(s: &[u8], at: usize) -> Mark
+    ensures { λ r. ⌜ r ≡ markAt (now (s .entry)) at ⌝ }
+{
+    if s.len() <= at {
+        return Mark::End;
+    }
+    if s.len() == at + 1 {
+        return Mark::Cut;
+    }
+    mark_of(byte_at(s, at), byte_at(s, at + 1))
+}
+
+// The first record: 9, 11 and 8, or the number of processes.
+pub fn header_of(s: &[u8]) -> Header
+    ensures { λ r. ⌜ r ≡ headerOf (now (s .entry)) ⌝ }
+{
+    match mark_at(s, 0) {
+        Mark::Cut => Header::Fault(FileAnswer::MarkCut),
+        Mark::Header => header_body(s),
+        Mark::End => Header::Fault(FileAnswer::NotHeader),
+        Mark::Enter => Header::Fault(FileAnswer::NotHeader),
+        Mark::Step => Header::Fault(FileAnswer::NotHeader),
+        Mark::Crash => Header::Fault(FileAnswer::NotHeader),
+        Mark::View => Header::Fault(FileAnswer::NotHeader),
+        Mark::Other => Header::Fault(FileAnswer::NotHeader),
+    }
+}
+
+// The header of a file that begins with its mark.
+fn header_body(s: &[u8]) -> Header
+    ensures { λ r. ⌜ r ≡ headerBy (now (s .entry)) Mark.Header ⌝ }
+{
+    if s.len() < 3 {
+        return Header::Fault(FileAnswer::BodyCut);
+    }
+    let n = byte_at(s, 2);
+    if n < 1 {
+        return Header::Fault(FileAnswer::OutOfRange);
+    }
+    if 32 < n {
+        return Header::Fault(FileAnswer::OutOfRange);
+    }
+    Header::Of(n)
+}
+
+// The record at a place has its mark and so many bytes after it. No sum wraps, whatever the place.
+pub fn body_fits(s: &[u8], at: usize, body: usize) -> bool
+    ensures { λ r. ⌜ r ≡ fits (now (s .entry)) at body ⌝ }
+{
+    if s.len() < at {
+        return false;
+    }
+    let left = s.len() - at;
+    if left < 2 {
+        return false;
+    }
+    body <= left - 2
+}
+
+// An `EN` at a place, whose mark is there.
+fn enter_at(s: &[u8], at: usize) -> Order
+    ensures { λ r. ⌜ r ≡ orderBy (now (s .entry)) at Mark.Enter ⌝ }
+{
+    if body_fits(s, at, 5) {
+        Order::Enter {
+            process: byte_at(s, at + 2),
+            value: word_at(s, at + 3),
+        }
+    } else {
+        Order::Fault(FileAnswer::BodyCut)
+    }
+}
+
+// An `ST` at a place, whose mark is there.
+fn step_at(s: &[u8], at: usize) -> Order
+    ensures { λ r. ⌜ r ≡ orderBy (now (s .entry)) at Mark.Step ⌝ }
+{
+    if body_fits(s, at, 1) {
+        Order::Step {
+            process: byte_at(s, at + 2),
+        }
+    } else {
+        Order::Fault(FileAnswer::BodyCut)
+    }
+}
+
+// A `CR` at a place, whose mark is there.
+fn crash_at(s: &[u8], at: usize) -> Order
+    ensures { λ r. ⌜ r ≡ orderBy (now (s .entry)) at Mark.Crash ⌝ }
+{
+    if body_fits(s, at, 1) {
+        Order::Crash {
+            process: byte_at(s, at + 2),
+        }
+    } else {
+        Order::Fault(FileAnswer::BodyCut)
+    }
+}
+
+// The later record of an order file at a place: 11, 12, 10 and 11, or the order.
+pub fn order_at(s: &[u8], at: usize) -> Order
+    ensures { λ r. ⌜ r ≡ orderAt (now (s .entry)) at ⌝ }
+{
+    match mark_at(s, at) {
+        Mark::End => Order::End,
+        Mark::Cut => Order::Fault(FileAnswer::MarkCut),
+        Mark::Header => Order::Fault(FileAnswer::HeaderAgain),
+        Mark::Enter => enter_at(s, at),
+        Mark::Step => step_at(s, at),
+        Mark::Crash => crash_at(s, at),
+        Mark::View => Order::Fault(FileAnswer::OtherMark),
+        Mark::Other => Order::Fault(FileAnswer::OtherMark),
+    }
+}
+
+// The fixed bytes of a `VW` at a place, whose mark is there.
+fn view_body(s: &[u8], at: usize) -> ViewRecord
+    ensures { λ r. ⌜ r ≡ viewBy (now (s .entry)) at Mark.View ⌝ }
+{
+    if body_fits(s, at, 5) {
+        ViewRecord::View {
+            process: byte_at(s, at + 2),
+            set: word_at(s, at + 3),
+        }
+    } else {
+        ViewRecord::Fault(FileAnswer::BodyCut)
+    }
+}
+
+// The later record of a view file at a place: 11, 12, 10 and 11, or the view's process and set.
+pub fn view_at(s: &[u8], at: usize) -> ViewRecord
+    ensures { λ r. ⌜ r ≡ viewAt (now (s .entry)) at ⌝ }
+{
+    match mark_at(s, at) {
+        Mark::End => ViewRecord::End,
+        Mark::Cut => ViewRecord::Fault(FileAnswer::MarkCut),
+        Mark::Header => ViewRecord::Fault(FileAnswer::HeaderAgain),
+        Mark::Enter => ViewRecord::Fault(FileAnswer::OtherMark),
+        Mark::Step => ViewRecord::Fault(FileAnswer::OtherMark),
+        Mark::Crash => ViewRecord::Fault(FileAnswer::OtherMark),
+        Mark::View => view_body(s, at),
+        Mark::Other => ViewRecord::Fault(FileAnswer::OtherMark),
+    }
+}
+
+// Document 01's number for an answer.
+pub fn number(a: FileAnswer) -> u32
+    ensures { λ r. ⌜ r ≡ numberOf a ⌝ }
+{
+    match a {
+        FileAnswer::Whole => 0,
+        FileAnswer::OutOfRange => 8,
+        FileAnswer::NotHeader => 9,
+        FileAnswer::OtherMark => 10,
+        FileAnswer::MarkCut => 11,
+        FileAnswer::BodyCut => 11,
+        FileAnswer::HeaderAgain => 12,
+        FileAnswer::BudgetSpent => 13,
+        FileAnswer::NoProcess => 14,
+        FileAnswer::SecondView => 15,
+        FileAnswer::NamesAbove => 16,
+    }
+}

@@ -1,0 +1,57 @@
+-- Demand 3 of the state that any file leaves, and the counts that a replay answers.
+use Prim.Native.Nat.{ℕ, _≤_}
+use mathlib.Core.Path.{_≡_, refl, sym, ap, _∙_, subst}
+use mathlib.Core.List.{List}
+use native.Mathlib.Omega.{arith}
+use Rattle.history.specs.Runs.{Call, runs, from, tally}
+use Rattle.history.proofs.Theorems.{every-state-shaped, never-one-nor-seven, at-most-x-reach-x, three-properties, exact-steps, enough-steps, counts-of-runs}
+use Rattle.files.specs.declared.Header.{Header}
+use Rattle.files.specs.Records.{headerOf}
+use Rattle.files.proofs.Reading.{opened}
+use Rattle.orders.specs.Replays.{replayBy, replayOf, callsBy, callsOf, processesBy, processesOf}
+use Rattle.orders.specs.Promises.{Counted, EveryFileCounted, EveryFileHolds, RefusedHeader, DemandThree, EveryFileDemandThree, EveryFileAccesses}
+use Rattle.orders.proofs.WholeFile.{held-calls, few-calls}
+
+counted-by : (s : List ℕ) (budget : ℕ) (h : Header) → headerOf s ≡ h → Counted (processesBy h) (callsBy s budget h) budget (replayBy s budget h)
+unfolding tally from
+counted-by s budget (Header.Fault a) e = record { most = omega arith; taken = refl; accesses = refl; refused = refl; state = refl }
+counted-by s budget (Header.Of n) e = record { most = few-calls s budget n e; taken = refl; accesses = refl; refused = refl; state = refl }
+
+pub everyFileCounted : EveryFileCounted
+unfolding replayOf
+everyFileCounted s budget = counted-by s budget (headerOf s) refl
+
+pub everyFileHolds : EveryFileHolds
+everyFileHolds s budget n e = held-calls s budget n e
+
+pub refusedHeader : RefusedHeader
+unfolding replayOf
+refusedHeader s budget a e = ap (replayBy s budget) e
+
+-- 1 to 32 processes, with a refused header one
+pub few-processes : (s : List ℕ) (h : Header) → headerOf s ≡ h → (1 ≤ processesBy h) × (processesBy h ≤ 32)
+few-processes s (Header.Fault a) e = (omega arith, omega arith)
+few-processes s (Header.Of n) e = let o = opened s n e in (o .some, o .most)
+
+-- demand 3 of a run
+demand-three : (n : ℕ) → 1 ≤ n → n ≤ 32 → (cs : List Call) → DemandThree n cs (runs n cs)
+demand-three n low high cs =
+    record {
+      levels = at-most-x-reach-x n low high cs;
+      properties = three-properties n low high cs;
+      exact = exact-steps n low high cs;
+      enough = enough-steps n low high cs;
+      shape = every-state-shaped n low high cs;
+      never = never-one-nor-seven n low high cs;
+    }
+
+pub everyFileDemandThree : EveryFileDemandThree
+everyFileDemandThree s budget =
+    let f = few-processes s (headerOf s) refl in
+    subst (DemandThree (processesOf s) (callsOf s budget)) (sym (everyFileCounted s budget .state))
+    (demand-three (processesOf s) (f .0) (f .1) (callsOf s budget))
+
+pub everyFileAccesses : EveryFileAccesses
+everyFileAccesses s budget =
+    let f = few-processes s (headerOf s) refl in
+    everyFileCounted s budget .accesses ∙ counts-of-runs (processesOf s) (f .0) (f .1) (callsOf s budget) .steps

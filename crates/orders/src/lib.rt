@@ -1,0 +1,352 @@
+// The replay of an order file and the writer of a view file (document 01, "Files"), over the machine's calls.
+use files::FileAnswer;
+use files::Header;
+use files::Order;
+use rules::Answer;
+use rules::Called;
+use rules::Machine;
+use rules::Stage;
+ghost use mathlib.Core.Path.{_≡_};
+ghost use Prim.Native.Nat.{_+_, _*_, _≤_};
+ghost use lib.Dec.{eqb};
+ghost use lib.ListN.{length};
+ghost use mathlib.Core.Bool.{true};
+ghost use Rattle.rules.specs.Shape.{shaped};
+ghost use Rattle.rules.specs.Calls.{numberOf};
+ghost use Rattle.sets.specs.Sets.{size};
+ghost use Rattle.history.specs.Runs.{enters, steps, crashes};
+ghost use Rattle.orders.specs.Replays.{replayed, ordersFrom, noReplay, replayOf};
+ghost use Rattle.files.specs.Records.{wordBytes};
+ghost use Rattle.files.specs.ViewFile.{joined};
+ghost use Rattle.orders.specs.Writes.{writeOf, bufferOf};
+ghost use Rattle.orders.specs.Places.{Lands, recordLength, put, memberBytes, recordBytes, stageBytes, machineBytes};
+ghost use Rattle.orders.specs.Turns.{begun, counted, took, ends, Room};
+
+// What a replay answers.
+pub struct Replayed {
+    pub answer: FileAnswer,
+    pub place: usize,
+    pub taken: u32,
+    pub accesses: u32,
+    pub refused: u32,
+    pub machine: Machine,
+}
+
+// A replay under way: the state and the counts after the orders taken.
+pub struct Run {
+    pub taken: u32,
+    pub accesses: u32,
+    pub refused: u32,
+    pub machine: Machine,
+}
+
+// What the view writer answers; `writeNumber` of specs/Writes gives document 01's number for each.
+pub enum WriteAnswer {
+    Done,
+    NotShaped,
+    TooShort,
+}
+
+pub struct Written {
+    pub answer: WriteAnswer,
+    pub bytes: usize,
+}
+
+// The machine has done what was asked.
+fn accepted(a: Answer) -> bool
+    ensures { λ r. ⌜ r ≡ eqb (numberOf a) 0 ⌝ }
+{
+    match a {
+        Answer::Done => true,
+        Answer::NotShaped => false,
+        Answer::NoProcess => false,
+        Answer::EnteredBefore => false,
+        Answer::NeverEntered => false,
+        Answer::HasCrashed => false,
+        Answer::HasFinished => false,
+        Answer::NotAlone => false,
+        Answer::OutOfRange => false,
+    }
+}
+
+// One order more, which the machine has answered; `step` is 1 for a step and 0 otherwise.
+fn counted(run: Run, called: Called, step: u32) -> Run
+    requires { ⌜ Room run × (step ≤ 1) ⌝ }
+    ensures { λ r. ⌜ r ≡ counted run called step ⌝ }
+{
+    let a = called.answer;
+    let machine = called.machine;
+    if accepted(a) {
+        Run {
+            taken: run.taken + 1,
+            accesses: run.accesses + step,
+            refused: run.refused,
+            machine,
+        }
+    } else {
+        Run {
+            taken: run.taken + 1,
+            accesses: run.accesses,
+            refused: run.refused + 1,
+            machine,
+        }
+    }
+}
+
+// `EN`, `ST` and `CR`. An order that the machine refuses is counted and skipped: the state is as it was.
+fn entered(run: Run, p: u32, v: u32) -> Run
+    requires { ⌜ Room run ⌝ }
+    ensures { λ r. ⌜ r ≡ took run (enters p v) ⌝ }
+{
+    let m = run.machine;
+    counted(run, machine::enter(m, p, v), 0)
+}
+
+fn stepped(run: Run, p: u32) -> Run
+    requires { ⌜ Room run ⌝ }
+    ensures { λ r. ⌜ r ≡ took run (steps p) ⌝ }
+{
+    let m = run.machine;
+    counted(run, machine::step(m, p), 1)
+}
+
+fn crashed(run: Run, p: u32) -> Run
+    requires { ⌜ Room run ⌝ }
+    ensures { λ r. ⌜ r ≡ took run (crashes p) ⌝ }
+{
+    let m = run.machine;
+    counted(run, machine::crash(m, p), 0)
+}
+
+// A fresh machine of n processes, and no order taken.
+fn begun(n: u32) -> Run
+    requires { ⌜ (1 ≤ n) × (n ≤ 32) ⌝ }
+    ensures { λ r. ⌜ r ≡ begun n ⌝ }
+{
+    let made = machine::new(n);
+    let machine = made.machine;
+    Run {
+        taken: 0,
+        accesses: 0,
+        refused: 0,
+        machine,
+    }
+}
+
+// Where the replay ends.
+fn ends(a: FileAnswer, at: usize, last: Run) -> Replayed
+    ensures { λ r. ⌜ r ≡ ends a at last ⌝ }
+{
+    let machine = last.machine;
+    Replayed {
+        answer: a,
+        place: at,
+        taken: last.taken,
+        accesses: last.accesses,
+        refused: last.refused,
+        machine,
+    }
+}
+
+// The orders after the header of a file of n processes.
+fn replay_orders(s: &[u8], n: u32, budget: u32) -> Replayed
+    requires { ⌜ (3 ≤ length (now s)) × (1 ≤ n) × (n ≤ 32) ⌝ }
+    ensures { λ r. ⌜ r ≡ replayed n (ordersFrom budget (now (s .entry)) 3) ⌝ }
+{
+    let mut run = begun(n);
+    let mut at: usize = 3;
+    loop {
+        if s.len() <= at {
+            return ends(FileAnswer::Whole, s.len(), run);
+        }
+        let taken = run.taken;
+        if taken == budget {
+            return ends(FileAnswer::BudgetSpent, at, run);
+        }
+        match files::order_at(s, at) {
+            Order::End => {
+                return ends(FileAnswer::Whole, s.len(), run);
+            }
+            Order::Fault(a) => {
+                return ends(a, at, run);
+            }
+            Order::Enter { process, value } => {
+                run = entered(run, process, value);
+                at += 7;
+            }
+            Order::Step { process } => {
+                run = stepped(run, process);
+                at += 3;
+            }
+            Order::Crash { process } => {
+                run = crashed(run, process);
+                at += 3;
+            }
+        }
+    }
+}
+
+// The replay of an order file over a fresh machine, with a budget of orders.
+pub fn replay(s: &[u8], budget: u32) -> Replayed
+    ensures { λ r. ⌜ r ≡ replayOf (now (s .entry)) budget ⌝ }
+{
+    match files::header_of(s) {
+        Header::Of(n) => replay_orders(s, n, budget),
+        Header::Fault(a) => {
+            let run = begun(1);
+            ends(a, 0, run)
+        }
+    }
+}
+
+// The bytes of a process's record in a view file: none unless it has finished.
+fn record_len(stage: Stage) -> usize
+    ensures { λ r. ⌜ r ≡ recordLength stage ⌝ }
+{
+    match stage {
+        Stage::Absent => 0,
+        Stage::Running {
+            level: _,
+            made: _,
+            found: _,
+        } => 0,
+        Stage::Finished { level: _, view } => 7 + 4 * (sets::size(view) as usize),
+        Stage::Crashed {
+            level: _,
+            made: _,
+            found: _,
+        } => 0,
+    }
+}
+
+// The length of the view file of a machine.
+fn file_len(m: Machine) -> usize
+    ensures { λ r. ⌜ r ≡ length (machineBytes m) ⌝ }
+{
+    let mut sum: usize = 3;
+    let mut i: usize = 0;
+    while i < 32 {
+        let process = m.processes[i];
+        let stage = process.stage;
+        sum += record_len(stage);
+        i += 1;
+    }
+    sum
+}
+
+// A number's four bytes, stored at a place.
+fn put_word(buffer: &mut [u8], at: usize, x: u32)
+    requires { ⌜ at + 4 ≤ length (now buffer) ⌝ }
+    ensures { λ _. ⌜ now (buffer .exit) ≡ put (now (buffer .entry)) at (wordBytes x) ⌝ }
+{
+    buffer[at] = (x % 256) as u8;
+    buffer[at + 1] = (x / 256 % 256) as u8;
+    buffer[at + 2] = (x / 65536 % 256) as u8;
+    buffer[at + 3] = (x / 16777216 % 256) as u8;
+}
+
+// The values of a view, out of the row of its level, ascending; answers the place after them.
+fn put_values(buffer: &mut [u8], at: usize, values: &[u32; 1024], level: u32, view: u32) -> usize
+    requires { ⌜ (at + 4 * size view ≤ length (now buffer)) × (1 ≤ level) × (level ≤ 32) ⌝ }
+    ensures { λ r. ⌜ r ≡ at + 4 * size view ⌝ }
+    ensures { λ _. ⌜ now (buffer .exit) ≡ put (now (buffer .entry)) at (joined 1 32 (memberBytes (now (values .entry)) level view)) ⌝ }
+{
+    let row = 32 * (level - 1);
+    let mut place = at;
+    let mut member: u32 = 0;
+    while member < 32 {
+        let k = (row + member) as usize;
+        member += 1;
+        if sets::has(view, member) {
+            put_word(buffer, place, values[k]);
+            place += 4;
+        }
+    }
+    place
+}
+
+// The record of process p, which finished at a level with a view; answers the place after it.
+fn put_view(
+    buffer: &mut [u8],
+    at: usize,
+    values: &[u32; 1024],
+    p: u32,
+    level: u32,
+    view: u32,
+) -> usize
+    requires { ⌜ (at + (7 + 4 * size view) ≤ length (now buffer)) × (1 ≤ level) × (level ≤ 32) × (p ≤ 32) ⌝ }
+    ensures { λ r. ⌜ r ≡ at + (7 + 4 * size view) ⌝ }
+    ensures { λ _. ⌜ now (buffer .exit) ≡ put (now (buffer .entry)) at (recordBytes (now (values .entry)) p level view) ⌝ }
+{
+    buffer[at] = 86;
+    buffer[at + 1] = 87;
+    buffer[at + 2] = p as u8;
+    put_word(buffer, at + 3, view);
+    put_values(buffer, at + 7, values, level, view)
+}
+
+// The record of process p, which has none unless it has finished; answers the place after it.
+fn put_process(buffer: &mut [u8], at: usize, values: &[u32; 1024], p: u32, stage: Stage) -> usize
+    requires { ⌜ (at + recordLength stage ≤ length (now buffer)) × Lands stage × (p ≤ 32) ⌝ }
+    ensures { λ r. ⌜ r ≡ at + recordLength stage ⌝ }
+    ensures { λ _. ⌜ now (buffer .exit) ≡ put (now (buffer .entry)) at (stageBytes (now (values .entry)) p stage) ⌝ }
+{
+    match stage {
+        Stage::Absent => at,
+        Stage::Running {
+            level: _,
+            made: _,
+            found: _,
+        } => at,
+        Stage::Finished { level, view } => put_view(buffer, at, values, p, level, view),
+        Stage::Crashed {
+            level: _,
+            made: _,
+            found: _,
+        } => at,
+    }
+}
+
+// The header and the records of the finished processes, ascending.
+fn put_views(buffer: &mut [u8], m: Machine)
+    requires { ⌜ (length (machineBytes m) ≤ length (now buffer)) × (shaped m ≡ true) ⌝ }
+    ensures { λ _. ⌜ now (buffer .exit) ≡ put (now (buffer .entry)) 0 (machineBytes m) ⌝ }
+{
+    let n = m.n;
+    buffer[0] = 77;
+    buffer[1] = 78;
+    buffer[2] = n as u8;
+    let mut at: usize = 3;
+    let mut i: usize = 0;
+    while i < 32 {
+        let process = m.processes[i];
+        let stage = process.stage;
+        at = put_process(buffer, at, &m.values, (i + 1) as u32, stage);
+        i += 1;
+    }
+}
+
+// The view writer: `MN`, then the finished processes in ascending order; refuses 1 and 17, and then writes nothing.
+pub fn write_views(m: Machine, buffer: &mut [u8]) -> Written
+    ensures { λ r. ⌜ r ≡ writeOf m (length (now (buffer .entry))) ⌝ }
+    ensures { λ _. ⌜ now (buffer .exit) ≡ bufferOf m (now (buffer .entry)) ⌝ }
+{
+    if !machine::shaped(m) {
+        return Written {
+            answer: WriteAnswer::NotShaped,
+            bytes: 0,
+        };
+    }
+    let bytes = file_len(m);
+    if buffer.len() < bytes {
+        return Written {
+            answer: WriteAnswer::TooShort,
+            bytes: 0,
+        };
+    }
+    put_views(buffer, m);
+    Written {
+        answer: WriteAnswer::Done,
+        bytes,
+    }
+}

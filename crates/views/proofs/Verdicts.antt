@@ -1,0 +1,80 @@
+-- The verdict of what was read, put together from its parts, and what it promises of a file.
+use Prim.Native.Nat.{ℕ}
+use mathlib.Core.List.{List}
+use mathlib.Core.Logic.{⊎-elim}
+use mathlib.Core.Bool.{Bool, true, false, cond}
+use mathlib.Core.Path.{_≡_, refl, sym, ap, _∙_}
+use native.Mathlib.Omega.{arith}
+use borrow.Author.Tests.{eq-eqb, ne-eqb, eqb-false}
+use Rattle.sets.proofs.Laws.{either}
+use Rattle.files.specs.declared.Views.{Views}
+use Rattle.files.specs.declared.ViewsRead.{ViewsRead}
+use Rattle.files.specs.Numbers.{numberOf, accepted}
+use Rattle.files.specs.ViewFile.{readOf}
+use Rattle.views.specs.declared.Finding.{Finding}
+use Rattle.views.specs.declared.Finding.the-variants.{Nothing, LacksItself, Apart, Unlike, Disagree}
+use Rattle.views.specs.declared.Found.{Found}
+use Rattle.views.specs.declared.FileVerdict.{FileVerdict}
+use Rattle.views.specs.Findings.{findingNumber, isFinding, findings, checkOf}
+use Rattle.views.specs.Verdict.{judged, unread, verdictBy, verdictOf}
+use Rattle.views.specs.Properties.{Obeys, RefusedFirst, ReadThenChecked, YesExactly}
+use Rattle.files.proofs.WholeFile.{readPlace}
+use Rattle.views.proofs.First.{none-first}
+use Rattle.views.proofs.Accepts.{acceptsExactly}
+use Rattle.views.proofs.FirstBreak.{real-findings, yesIsNoFinding}
+
+abbrev pub parts : ℕ → ℕ → ℕ → ℕ → FileVerdict
+parts k at i j = record { number = k; place = at; i = i; j = j }
+
+pub verdict-read : (r : ViewsRead) (f : Found) (k : ℕ) → numberOf (r .answer) ≡ 0 → f ≡ checkOf (r .views) → k ≡ findingNumber (f .finding)
+    → parts k (r .place) (f .i) (f .j) ≡ verdictBy r
+verdict-read r f k z e n =
+    ap (λ (x : ℕ). parts x (r .place) (f .i) (f .j)) n
+    ∙ ap (judged (r .place)) e
+    ∙ sym (ap (λ (b : Bool). cond b (judged (r .place) (checkOf (r .views))) (unread (numberOf (r .answer)) (r .place)))
+    (eq-eqb (numberOf (r .answer)) 0 z))
+
+pub verdict-refused : (r : ViewsRead) (k : ℕ) → k ≡ numberOf (r .answer) → (k ≡ 0 → ⊥) → parts k (r .place) 0 0 ≡ verdictBy r
+verdict-refused r k e n =
+    ap (λ (x : ℕ). parts x (r .place) 0 0) e
+    ∙ sym (ap (λ (b : Bool). cond b (judged (r .place) (checkOf (r .views))) (unread (numberOf (r .answer)) (r .place)))
+    (ne-eqb (numberOf (r .answer)) 0 (λ z. n (e ∙ z))))
+
+-- The verdict of a file, from what its reading answers.
+verdict-if : (s : List ℕ) (b : Bool) → accepted (readOf s .answer) ≡ b
+    → verdictOf s ≡ cond b (judged (readOf s .place) (checkOf (readOf s .views))) (unread (numberOf (readOf s .answer)) (readOf s .place))
+unfolding verdictOf
+verdict-if s b e =
+    ap (λ (c : Bool). cond c (judged (readOf s .place) (checkOf (readOf s .views))) (unread (numberOf (readOf s .answer)) (readOf s .place))) e
+
+pub refusedFirst : RefusedFirst
+refusedFirst s e = verdict-if s false e
+
+pub readThenChecked : ReadThenChecked
+readThenChecked s e = verdict-if s true e ∙ ap (λ (at : ℕ). judged at (checkOf (readOf s .views))) (readPlace s e)
+
+-- a finding's number is not 0
+no-number : (k : Finding) → findingNumber k ≡ 0 → isFinding k ≡ false
+no-number Nothing e = refl
+no-number LacksItself e = absurd (omega arith)
+no-number Apart e = absurd (omega arith)
+no-number Unlike e = absurd (omega arith)
+no-number Disagree e = absurd (omega arith)
+
+yes-by : (s : List ℕ) → verdictOf s .number ≡ 0 → (accepted (readOf s .answer) ≡ true) × Obeys (readOf s .views)
+unfolding checkOf
+yes-by s z =
+    ⊎-elim
+    (λ e. let v : Views = readOf s .views in
+    let k : findingNumber (checkOf v .finding) ≡ 0 = sym (ap (λ (x : FileVerdict). x .number) (readThenChecked s e)) ∙ z in
+    (e, acceptsExactly v .0 (none-first (findings v) (real-findings v) (no-number (checkOf v .finding) k))))
+    (λ e. absurd (eqb-false (numberOf (readOf s .answer)) 0 e (sym (ap (λ (x : FileVerdict). x .number) (refusedFirst s e)) ∙ z)))
+    (either (accepted (readOf s .answer)))
+
+pub yesExactly : YesExactly
+yesExactly s = (
+  yes-by s,
+  λ p. let v : Views = readOf s .views in
+      ap (λ (x : FileVerdict). x .number) (readThenChecked s (p .0))
+      ∙ ap (λ (f : Found). findingNumber (f .finding)) (yesIsNoFinding v .1 (acceptsExactly v .1 (p .1))),
+)
