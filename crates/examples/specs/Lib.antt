@@ -1,0 +1,2 @@
+-- Document 01's examples as one table.
+pub mod Table
