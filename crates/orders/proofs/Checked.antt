@@ -1,4 +1,4 @@
--- The checker accepts what is written of a state that an order file leaves: the three properties of runs, carried over to the views of the file.
+-- The checker accepts what is written of a state that a run or an order file leaves: the three properties of runs, carried over to the views of the file.
 use Prim.Native.Nat.{ℕ, zero, suc, _+_, _^_, _≤_, _<_}
 use mathlib.Core.Bool.{Bool, true, false, _&&_, cond}
 use mathlib.Core.Path.{_≡_, refl, sym, ap, _∙_, subst}
@@ -15,7 +15,7 @@ use Rattle.rules.specs.State.{stageOf, valueOf, foundOf}
 use Rattle.rules.specs.Shape.{Shaped}
 use Rattle.rules.specs.Calls.{accepted, fresh, enterOf, viewOf}
 use Rattle.rules.proofs.Laws.Shape.{record-shaped}
-use Rattle.history.specs.Runs.{Call, enters, steps, crashes, after, givenFrom, given}
+use Rattle.history.specs.Runs.{Call, enters, steps, crashes, after, runs, givenFrom, given}
 use Rattle.history.specs.Views.{Has, View}
 use Rattle.history.proofs.Given.{value-given}
 use Rattle.files.specs.declared.Header.{Header}
@@ -37,11 +37,12 @@ use Rattle.views.proofs.Accepts.{acceptsExactly}
 use Rattle.views.proofs.FirstBreak.{yesIsNoFinding}
 use Rattle.views.proofs.Verdicts.{readThenChecked}
 use Rattle.orders.specs.Replays.{Orders, ended, onward, ordersFrom, replayOf, callsBy, callsOf, processesOf}
+use Rattle.orders.specs.OrderFile.{WordCalls}
 use Rattle.orders.specs.Writes.{viewsOf, bytesOf}
-use Rattle.orders.specs.Promises.{Words, EveryFileAccepted, DemandThree}
+use Rattle.orders.specs.Promises.{Words, Accepted, EveryRunAccepted, EveryFileAccepted, DemandThree}
 use Rattle.orders.proofs.Views.{seen}
 use Rattle.orders.proofs.RoundTrip.{view-found, owner-known, owner-finished, owner-below, named-below, value-named, writtenReadsBack}
-use Rattle.orders.proofs.Promises.{few-processes, everyFileCounted, everyFileDemandThree}
+use Rattle.orders.proofs.Promises.{few-processes, demand-three, everyFileCounted, everyFileDemandThree}
 
 -- The views of a machine and those of its file are the same pairs.
 module _ (m : Machine) (S : Shaped m) where
@@ -107,15 +108,6 @@ module _ (m : Machine) (S : Shaped m) where
     yes = yesIsNoFinding (viewsOf m) .1 (acceptsExactly (viewsOf m) .1 obeys)
 
 -- The values that an order file gives are 32-bit numbers.
-abbrev WordCall : Call → Type 0
-WordCall (enters p v) = v < 2 ^ 32
-WordCall (steps p) = Unit {0}
-WordCall (crashes p) = Unit {0}
-
-abbrev WordCalls : List Call → Type 0
-WordCalls [] = Unit {0}
-WordCalls (c ∷ cs) = WordCall c × WordCalls cs
-
 abbrev WordOrder : Order → Type 0
 WordOrder Order.End = Unit {0}
 WordOrder (Order.Fault a) = Unit {0}
@@ -185,16 +177,21 @@ file-words s b budget i low high =
       given-below (fresh (processesOf s)) (callsOf s budget) i (word-calls s b budget (headerOf s)),
     )
 
-pub everyFileAccepted : EveryFileAccepted
-everyFileAccepted s b budget =
-    let m = replayOf s budget .machine in
-    let d : DemandThree (processesOf s) (callsOf s budget) m = everyFileDemandThree s budget in
-    let ok : checkOf (viewsOf m) ≡ found Finding.Nothing 0 0 = yes m (d .shape .shape) (given (processesOf s) (callsOf s budget)) (d .properties) in
-    let back : readOf (bytesOf m) ≡ readWhole (bytesOf m) (viewsOf m)
-    = writtenReadsBack m (d .shape .held) (file-words s b budget) (record-shaped m (d .shape .shape)) in
+-- the properties of a run are those of its file
+accepts : (n : ℕ) (cs : List Call) (m : Machine) → DemandThree n cs m → Words m → Accepted m
+accepts n cs m d w =
+    let ok : checkOf (viewsOf m) ≡ found Finding.Nothing 0 0 = yes m (d .shape .shape) (given n cs) (d .properties) in
+    let back : readOf (bytesOf m) ≡ readWhole (bytesOf m) (viewsOf m) = writtenReadsBack m (d .shape .held) w (record-shaped m (d .shape .shape)) in
     record {
       checked = ok;
       verdict = readThenChecked (bytesOf m) (ap (λ (r : ViewsRead). numbers.accepted (r .answer)) back)
           ∙ ap (λ (r : ViewsRead). judged (length (bytesOf m)) (checkOf (r .views))) back
           ∙ ap (judged (length (bytesOf m))) ok;
     }
+
+pub everyRunAccepted : EveryRunAccepted
+everyRunAccepted n low high cs w = accepts n cs (runs n cs) (demand-three n low high cs) w
+
+pub everyFileAccepted : EveryFileAccepted
+everyFileAccepted s b budget =
+    accepts (processesOf s) (callsOf s budget) (replayOf s budget .machine) (everyFileDemandThree s budget) (file-words s b budget)

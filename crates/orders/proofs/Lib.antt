@@ -7,6 +7,7 @@ pub mod Writes
 pub mod Determined
 pub mod Orders
 pub mod WholeFile
+pub mod OrderFile
 pub mod Promises
 pub mod Examples
 pub mod Looked

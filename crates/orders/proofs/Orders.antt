@@ -53,7 +53,8 @@ order-is : (s : List ℕ) (at : ℕ) → at < length s
     (bodied (fits s at 1) (Order.Crash (byteAt s (at + 2))))
 unfolding orderAt markAt markOf
 order-is s at h =
-    ap (λ (b : Bool). orderBy s at (cond b Mark.End (cond (eqb (length s) (at + 1)) Mark.Cut (markOf (byteAt s at) (byteAt s (at + 1)))))) (lt-leb (length s) at h)
+    let rest : Mark = cond (eqb (length s) (at + 1)) Mark.Cut (markOf (byteAt s at) (byteAt s (at + 1))) in
+    ap (λ (b : Bool). orderBy s at (cond b Mark.End rest)) (lt-leb (length s) at h)
     ∙ chosen s at (eqb (length s) (at + 1)) (marked s at 77 78) (marked s at 69 78) (marked s at 83 84) (marked s at 67 82) (marked s at 86 87)
 
 -- the number of what stands at a place

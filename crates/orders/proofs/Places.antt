@@ -65,14 +65,18 @@ module _ (f : ℕ → List ℕ) (b₀ : List ℕ) (at : ℕ) (b : List ℕ) (pla
   pub left-fits : i < 32 → place + length (f (i + 1)) ≤ at + length (joined 1 32 f)
   left-fits h = omega (arith, next-room h)
 
-  pub left-next : i < 32 → (b′ : List ℕ) (place′ : ℕ) → b′ ≡ put b place (f (i + 1)) → place′ ≡ place + length (f (i + 1)) → Left f b₀ at b′ place′ (i + 1)
+  pub left-next : i < 32 → (b′ : List ℕ) (place′ : ℕ) → b′ ≡ put b place (f (i + 1)) → place′ ≡ place + length (f (i + 1))
+      → Left f b₀ at b′ place′ (i + 1)
   left-next h b′ place′ e p =
       let rest = joined (suc (i + 1)) (32 - (i + 1)) f in
       record {
         most = omega arith;
         same = ap length e ∙ length-put b place (f (i + 1)) ∙ l .same;
         room = omega (arith, next-room h);
-        left = ap₂ (λ (c : List ℕ) (k : ℕ). put c k rest) e p ∙ sym (put-append b place (f (i + 1)) rest) ∙ ap (put b place) (sym (joined-next i f h)) ∙ l .left;
+        left = ap₂ (λ (c : List ℕ) (k : ℕ). put c k rest) e p
+            ∙ sym (put-append b place (f (i + 1)) rest)
+            ∙ ap (put b place) (sym (joined-next i f h))
+            ∙ l .left;
       }
 
   pub left-none : 32 ≤ i → (b ≡ put b₀ at (joined 1 32 f)) × (place ≡ at + length (joined 1 32 f))
@@ -153,7 +157,8 @@ three-stored b at x y z = let e : at + 2 ≡ at + 1 + 1 = omega arith in ap (λ 
 
 -- a record stored in its three parts
 pub put-record : (values b b₁ b₂ b₃ : List ℕ) (at p x w : ℕ)
-    → b₁ ≡ set (set (set b at 86) (at + 1) 87) (at + 2) p → b₂ ≡ put b₁ (at + 3) (wordBytes w) → b₃ ≡ put b₂ (at + 7) (joined 1 32 (memberBytes values x w))
+    → b₁ ≡ set (set (set b at 86) (at + 1) 87) (at + 2) p → b₂ ≡ put b₁ (at + 3) (wordBytes w)
+    → b₃ ≡ put b₂ (at + 7) (joined 1 32 (memberBytes values x w))
     → b₃ ≡ put b at (recordBytes values p x w)
 unfolding recordBytes
 put-record values b b₁ b₂ b₃ at p x w e f g =

@@ -34,7 +34,7 @@ few-processes s (Header.Fault a) e = (omega arith, omega arith)
 few-processes s (Header.Of n) e = let o = opened s n e in (o .some, o .most)
 
 -- demand 3 of a run
-demand-three : (n : ℕ) → 1 ≤ n → n ≤ 32 → (cs : List Call) → DemandThree n cs (runs n cs)
+pub demand-three : (n : ℕ) → 1 ≤ n → n ≤ 32 → (cs : List Call) → DemandThree n cs (runs n cs)
 demand-three n low high cs =
     record {
       levels = at-most-x-reach-x n low high cs;

@@ -90,7 +90,9 @@ module _ (m : Machine) (S : Shaped m) where
         let t = named-stands h in
         let k = has-known (viewOf (stageOf m i)) j h in
         ⊎-elim (λ l. l)
-        (λ l. absurd (true≢false (sym (t .there) ∙ S .register (levelOf (stageOf m i)) j (t .low) (omega (arith, t .high, S .most)) (k .0) (k .1) .slot-above l)))
+        (λ l.
+        let r = S .register (levelOf (stageOf m i)) j (t .low) (omega (arith, t .high, S .most)) (k .0) (k .1) in
+        absurd (true≢false (sym (t .there) ∙ r .slot-above l)))
         (at-most-or-above j (m .n))
 
     -- the value beside a process that is named, and beside one that is not

@@ -9,6 +9,7 @@ use native.Mathlib.Omega.{arith}
 use lib.Dec.{leb, eqb}
 use lib.ListN.{length, length-append}
 use borrow.Author.Tests.{leb-true, leb-false, eqb-true, eqb-false, eq-eqb, ne-eqb}
+use Rattle.rules.proofs.Laws.Small.{at-most-or-above}
 use Rattle.history.specs.Runs.{Call, enters, steps, crashes}
 use Rattle.files.specs.declared.FileAnswer.{FileAnswer}
 use Rattle.files.specs.declared.FileAnswer.the-variants.{Whole, BudgetSpent}
@@ -20,7 +21,7 @@ use Rattle.files.specs.Table.{firstThat}
 use Rattle.files.proofs.Reading.{opened}
 use Rattle.files.proofs.Table.{headerNumber, header-number, header-refused}
 use Rattle.orders.specs.Replays.{Orders, ended, then, onward, ordersFrom, replayBy, replayOf, callsBy, callsOf}
-use Rattle.orders.specs.Table.{orderLines, Holds, start, enter, step, crash, Refusal, RefusedExactly, ToTheEnd, WholeExactly}
+use Rattle.orders.specs.Table.{orderLines, Holds, start, enter, step, crash, HoldsOne, Refusal, RefusedExactly, ToTheEnd, WholeExactly}
 use Rattle.orders.proofs.Turns.{width, whole-order, order-end, from-end, from-spent, from-order}
 use Rattle.orders.proofs.Orders.{orderNumber, order-number, not-end}
 
@@ -127,6 +128,59 @@ stops : (k : ℕ) (s : List ℕ) (at : ℕ) (cs : List Call) → Holds s at cs �
 unfolding ordersFrom
 stops zero s at cs h l = stops-zero s at cs h l (leb (length s) at) refl
 stops (suc k) s at cs h l = stops-by s k at cs h l (λ at′ cs′ h′ l′. stops k s at′ cs′ h′ l′) (orderAt s at) refl
+
+-- A place has one list of calls: an order moves the place on.
+grows-zero : (s : List ℕ) (at : ℕ) → at ≤ length s → (b : Bool)
+    → at + length (cond b (ended Whole (length s)) (ended BudgetSpent at) .calls) ≤ cond b (ended Whole (length s)) (ended BudgetSpent at) .place
+grows-zero s at l true = omega arith
+grows-zero s at l false = omega arith
+
+grows-by : (s : List ℕ) (k at : ℕ) → at ≤ length s
+    → ((at : ℕ) → at ≤ length s → at + length (ordersFrom k s at .calls) ≤ ordersFrom k s at .place)
+    → (o : Order) → orderAt s at ≡ o → at + length (onward s at o (ordersFrom k s) .calls) ≤ onward s at o (ordersFrom k s) .place
+grows-by s k at l go Order.End e = omega arith
+grows-by s k at l go (Order.Fault a) e = omega arith
+grows-by s k at l go (Order.Enter p v) e = omega (arith, go (at + 7) (whole-order s at (Order.Enter p v) l e))
+grows-by s k at l go (Order.Step p) e = omega (arith, go (at + 3) (whole-order s at (Order.Step p) l e))
+grows-by s k at l go (Order.Crash p) e = omega (arith, go (at + 3) (whole-order s at (Order.Crash p) l e))
+
+grows : (k : ℕ) (s : List ℕ) (at : ℕ) → at ≤ length s → at + length (ordersFrom k s at .calls) ≤ ordersFrom k s at .place
+unfolding ordersFrom
+grows zero s at l = grows-zero s at l (leb (length s) at)
+grows (suc k) s at l = grows-by s k at l (λ i h. grows k s i h) (orderAt s at) refl
+
+none-left : (s : List ℕ) (at : ℕ) → at ≤ length s → (b : Bool) → leb (length s) at ≡ b
+    → (cond b (ended Whole (length s)) (ended BudgetSpent at) .calls ≡ []) × (cond b (ended Whole (length s)) (ended BudgetSpent at) .place ≡ at)
+none-left s at l true e = (refl, omega (arith, leb-true (length s) at e))
+none-left s at l false e = (refl, refl)
+
+no-calls : (s : List ℕ) (at k : ℕ) → at ≤ length s → k ≡ 0 → (ordersFrom k s at .calls ≡ []) × (ordersFrom k s at .place ≡ at)
+unfolding ordersFrom
+no-calls s at k l e =
+    let t = none-left s at l (leb (length s) at) refl in
+    (ap (λ (j : ℕ). ordersFrom j s at .calls) e ∙ t .0, ap (λ (j : ℕ). ordersFrom j s at .place) e ∙ t .1)
+
+empty : (cs : List Call) → length cs ≡ 0 → cs ≡ []
+empty [] e = refl
+empty (c ∷ cs) e = absurd (omega arith)
+
+one-list : (s : List ℕ) (at : ℕ) (cs ds : List Call) → Holds s at cs → Holds s at ds → length cs ≤ length ds → cs ≡ ds
+unfolding after
+one-list s at cs ds h g l =
+    let c = comes (length ds) h l in
+    let d = comes (length ds) g (omega arith) in
+    let o : after cs (ordersFrom (length ds - length cs) s at) ≡ after ds (ordersFrom (length ds - length ds) s at) = sym (c .same) ∙ d .same in
+    let z : length ds - length ds ≡ 0 = omega arith in
+    let t = no-calls s at (length ds - length ds) (d .inside) z in
+    let place : ordersFrom (length ds - length cs) s at .place ≡ at = ap (λ (x : Orders). x .place) o ∙ t .1 in
+    let none : ordersFrom (length ds - length cs) s at .calls ≡ []
+    = empty (ordersFrom (length ds - length cs) s at .calls) (omega (arith, grows (length ds - length cs) s at (d .inside))) in
+    sym (append-nil cs) ∙ ap (λ (x : List Call). cs ++ x) (sym none) ∙ ap (λ (x : Orders). x .calls) o
+    ∙ ap (λ (x : List Call). ds ++ x) (t .0) ∙ append-nil ds
+
+pub holdsOne : HoldsOne
+holdsOne s at cs ds h g =
+    ⊎-elim (λ l. one-list s at cs ds h g l) (λ l. sym (one-list s at ds cs g h (omega arith))) (at-most-or-above (length cs) (length ds))
 
 -- a file whose header is read
 file-stops : (s : List ℕ) (budget n : ℕ) → headerOf s ≡ Header.Of n → Stops s budget [] (ordersFrom budget s 3)

@@ -16,8 +16,9 @@ use Rattle.rules.specs.Calls.{lookOf}
 use Rattle.rules.specs.Statements.{Meets}
 use Rattle.history.specs.Runs.{Call, runs, acceptedSteps, allSteps, refusedCalls, reached, given}
 use Rattle.history.specs.Views.{Has, View}
-use Rattle.history.specs.Theorems.{NeitherOneNorSeven, total}
+use Rattle.history.specs.Theorems.{OfEveryRun, NeitherOneNorSeven, total}
 use Rattle.files.specs.declared.FileAnswer.{FileAnswer}
+use Rattle.files.specs.declared.FileAnswer.the-variants.{Whole}
 use Rattle.files.specs.declared.Header.{Header}
 use Rattle.files.specs.Records.{headerOf}
 use Rattle.files.specs.Views.{owns, seenBy, valueBy}
@@ -27,8 +28,9 @@ use Rattle.views.specs.declared.Finding.{Finding}
 use Rattle.views.specs.Findings.{found, checkOf}
 use Rattle.views.specs.Verdict.{judged, verdictOf}
 use Rattle.orders.specs.declared.Replayed.{Replayed}
-use Rattle.orders.specs.Replays.{replayOf, callsOf, processesOf, noReplay}
+use Rattle.orders.specs.Replays.{replayed, replayOf, callsOf, processesOf, noReplay}
 use Rattle.orders.specs.Writes.{writeNumber, viewsOf, bytesOf, writeOf, bufferOf}
+use Rattle.orders.specs.OrderFile.{orderFile, WordCalls}
 use Rattle.orders.specs.Table.{Holds}
 
 -- Document 01: "replay takes at most the budget's orders; orders taken and accesses equal the counts in the history's definition". The list of
@@ -45,6 +47,11 @@ EveryFileCounted = (s : List ℕ) (budget : ℕ) → Counted (processesOf s) (ca
 
 abbrev pub EveryFileHolds : Type 0
 EveryFileHolds = (s : List ℕ) (budget n : ℕ) → headerOf s ≡ Header.Of n → Holds s (replayOf s budget .place) (callsOf s budget)
+
+-- The other way, every list of calls whose values four bytes can hold is the replay of a file, with any budget that is enough.
+abbrev pub EveryListReplays : Type 0
+EveryListReplays = (n : ℕ) → 1 ≤ n → n ≤ 32 → (cs : List Call) → WordCalls cs → (budget : ℕ) → length cs ≤ budget
+    → replayOf (orderFile n cs) budget ≡ replayed n (record { answer = Whole; place = length (orderFile n cs); calls = cs })
 
 -- "After a refused header the state is a fresh machine of one process and the three counts are 0", at every budget.
 abbrev pub RefusedHeader : Type 0
@@ -105,10 +112,14 @@ WrittenReadsBack = (m : Machine) → Held m → Words m → shaped m ≡ true �
 abbrev pub WritesBytes : Type 0
 WritesBytes = (m : Machine) → Held m → Words m → shaped m ≡ true → Bytes (bytesOf m)
 
--- The checker accepts what is written of a state that an order file leaves, and so does the verdict of the written file.
+-- The checker accepts what is written of a state that a run leaves, and so does the verdict of the written file.
 pub record Accepted (m : Machine) : Type 0 where
   pub checked : checkOf (viewsOf m) ≡ found Finding.Nothing 0 0
   pub verdict : verdictOf (bytesOf m) ≡ judged (length (bytesOf m)) (found Finding.Nothing 0 0)
 
+abbrev pub EveryRunAccepted : Type 0
+EveryRunAccepted = OfEveryRun λ n cs. Words (runs n cs) → Accepted (runs n cs)
+
+-- so of every state that an order file leaves
 abbrev pub EveryFileAccepted : Type 0
 EveryFileAccepted = (s : List ℕ) → Bytes s → (budget : ℕ) → Accepted (replayOf s budget .machine)

@@ -35,6 +35,10 @@ pub data Holds (s : List ℕ) : ℕ → List Call → Type 0 where
   step : {at : ℕ} {cs : List Call} {p : ℕ} → Holds s at cs → orderAt s at ≡ Order.Step p → Holds s (at + 3) (cs ++ steps p ∷ [])
   crash : {at : ℕ} {cs : List Call} {p : ℕ} → Holds s at cs → orderAt s at ≡ Order.Crash p → Holds s (at + 3) (cs ++ crashes p ∷ [])
 
+-- a place has one such list
+abbrev pub HoldsOne : Type 0
+HoldsOne = (s : List ℕ) (at : ℕ) (cs ds : List Call) → Holds s at cs → Holds s at ds → cs ≡ ds
+
 -- Number k applies at a place, and is the first that does. The header's faults come first; "if bytes are left and the budget is used up, 13 comes
 -- before any look at the next record."
 abbrev pub Refusal : List ℕ → ℕ → ℕ → ℕ → Type 0

@@ -7,20 +7,20 @@ use rules::Called;
 use rules::Machine;
 use rules::Stage;
 ghost use mathlib.Core.Path.{_≡_};
+ghost use mathlib.Core.Bool.{true};
 ghost use Prim.Native.Nat.{_+_, _*_, _≤_};
 ghost use lib.Dec.{eqb};
 ghost use lib.ListN.{length};
-ghost use mathlib.Core.Bool.{true};
+ghost use Rattle.sets.specs.Sets.{size};
 ghost use Rattle.rules.specs.Shape.{shaped};
 ghost use Rattle.rules.specs.Calls.{numberOf};
-ghost use Rattle.sets.specs.Sets.{size};
 ghost use Rattle.history.specs.Runs.{enters, steps, crashes};
-ghost use Rattle.orders.specs.Replays.{replayed, ordersFrom, noReplay, replayOf};
 ghost use Rattle.files.specs.Records.{wordBytes};
 ghost use Rattle.files.specs.ViewFile.{joined};
+ghost use Rattle.orders.specs.Replays.{replayed, ordersFrom, replayOf};
+ghost use Rattle.orders.specs.Turns.{begun, counted, took, ends, Room};
 ghost use Rattle.orders.specs.Writes.{writeOf, bufferOf};
 ghost use Rattle.orders.specs.Places.{Lands, recordLength, put, memberBytes, recordBytes, stageBytes, machineBytes};
-ghost use Rattle.orders.specs.Turns.{begun, counted, took, ends, Room};
 
 // What a replay answers.
 pub struct Replayed {

@@ -31,7 +31,9 @@ record-len-requires : tie.Need-record-len-requires Inv-loop μ-loop
 record-len-requires c κs = search needs
 
 add-sum : tie.Need-add-sum Inv-loop μ-loop
-add-sum c = omega (arith, c .record-len .ensures, record-most (getD (c .before .before .before .before .args .t1 .processes) (c .before .before .before .loop .i) nobody .stage))
+add-sum c =
+    let m = c .before .before .before .before .args .t1 in
+    omega (arith, c .record-len .ensures, record-most (getD (m .processes) (c .before .before .before .loop .i) nobody .stage))
 
 add-i : tie.Need-add-i Inv-loop μ-loop
 add-i c = search needs

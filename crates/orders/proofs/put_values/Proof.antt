@@ -27,7 +27,9 @@ mul-row : tie.Need-mul-row Inv-loop μ-loop
 mul-row c = search needs
 
 loop-holds : tie.Need-loop-holds Inv-loop μ-loop
-loop-holds c = left-start (memberBytes (now (c .before .args .values)) (c .before .args .level) (c .before .args .view)) (now (c .before .args .buffer)) (c .before .args .at)
+loop-holds c =
+    let a = c .before .args in
+    left-start (memberBytes (now (a .values)) (a .level) (a .view)) (now (a .buffer)) (a .at)
 
 add-k : tie.Need-add-k Inv-loop μ-loop
 add-k c = search needs
@@ -47,32 +49,46 @@ mul-put-word c = search needs
 element-copy-out-put-word : tie.Need-element-copy-out-put-word Inv-loop μ-loop
 element-copy-out-put-word c = search needs
 
--- where the member is in the view, its value is stored
-member : (c : tie.After-put-word-arg Inv-loop μ-loop)
-    → memberBytes (now (c .before .before .before .before .before .before .args .values)) (c .before .before .before .before .before .before .args .level) (c .before .before .before .before .before .before .args .view) (c .before .before .before .before .loop .member + 1)
-    ≡ wordBytes (getD (now (c .before .before .before .before .before .before .args .values)) (32 * (c .before .before .before .before .before .before .args .level - 1) + c .before .before .before .before .loop .member) 0)
-member c =
-    let a = c .before .before .before .before .before .before .args in
-    member-in (now (a .values)) (a .level) (a .view) (c .before .before .before .before .loop .member) (told (c .before .before .has .ensures) (c .before .if1 .taken))
+-- Where the member is in the view: the values, the level and the view, and the loop's state.
+abbrev Here : Type 0
+Here = tie.After-put-word-arg Inv-loop μ-loop
+
+abbrev Values : Here → List ℕ
+Values d = now (d .before .before .before .before .before .before .args .values)
+
+abbrev X : Here → ℕ
+X d = d .before .before .before .before .before .before .args .level
+
+abbrev W : Here → ℕ
+W d = d .before .before .before .before .before .before .args .view
+
+abbrev J : Here → ℕ
+J d = d .before .before .before .before .loop .member
+
+-- its value is stored
+member : (d : Here) → memberBytes (Values d) (X d) (W d) (J d + 1) ≡ wordBytes (getD (Values d) (32 * (X d - 1) + J d) 0)
+member d = member-in (Values d) (X d) (W d) (J d) (told (d .before .before .has .ensures) (d .before .if1 .taken))
 
 -- and there is room for it
-room : (c : tie.After-put-word-arg Inv-loop μ-loop) → c .before .before .before .before .loop .place + 4 ≤ c .before .before .before .before .before .before .args .at + 4 * size (c .before .before .before .before .before .before .args .view)
-room c =
-    let a = c .before .before .before .before .before .before .args in
-    let l = c .before .before .before .before .loop in
-    let f = memberBytes (now (a .values)) (a .level) (a .view) in
-    omega (
-      arith,
-      left-fits f (now (a .buffer)) (a .at) (l .buffer) (l .place) (l .member) (l .inv) (c .before .before .before .loop-test .taken),
-      ap length (member c),
-      values-length (now (a .values)) (a .level) (a .view),
-    )
+room : (d : Here) → d .before .before .before .before .loop .place + 4 ≤ d .before .before .before .before .before .before .args .at + 4 * size (W d)
+room d =
+    let a = d .before .before .before .before .before .before .args in
+    let l = d .before .before .before .before .loop in
+    let f = memberBytes (Values d) (X d) (W d) in
+    let h = d .before .before .before .loop-test .taken in
+    let fits = left-fits f (now (a .buffer)) (a .at) (l .buffer) (l .place) (l .member) (l .inv) h in
+    omega (arith, fits, ap length (member d), values-length (Values d) (X d) (W d))
 
 put-word-requires : tie.Need-put-word-requires Inv-loop μ-loop
-put-word-requires c κs = omega (arith, room (c .before), c .before .before .before .before .before .loop .inv .same, c .before .before .before .before .before .before .before .pre .0)
+put-word-requires c κs =
+    let l = c .before .before .before .before .before in
+    omega (arith, room (c .before), l .loop .inv .same, l .before .before .pre .0)
 
 add-place : tie.Need-add-place Inv-loop μ-loop
-add-place c = omega (arith, room (c .before .before .before .before), c .before .before .before .before .before .before .before .before .before .before .pre .0, c .before .before .before .before .before .before .before .before .before .before .good)
+add-place c =
+    let d = c .before .before .before .before in
+    let a = d .before .before .before .before .before .before in
+    omega (arith, room d, a .pre .0, a .good)
 
 loop-less : tie.Need-loop-less Inv-loop μ-loop
 loop-less c = search needs
@@ -82,11 +98,11 @@ loop-again c =
     let d = c .before .before .before .before in
     let a = d .before .before .before .before .before .before .args in
     let l = d .before .before .before .before .loop in
-    let f = memberBytes (now (a .values)) (a .level) (a .view) in
-    let four : l .place + 4 ≡ l .place + length (f (l .member + 1)) = sym (ap (λ (x : List ℕ). l .place + length x) (member d)) in
+    let f = memberBytes (Values d) (X d) (W d) in
+    let four : l .place + 4 ≡ l .place + length (f (J d + 1)) = sym (ap (λ (x : List ℕ). l .place + length x) (member d)) in
+    let stored = c .before .before .put-word .ensures ∙ ap (put (l .buffer) (l .place)) (sym (member d)) in
     left-next f (now (a .buffer)) (a .at) (l .buffer) (l .place) (l .member) (l .inv) (d .before .before .before .loop-test .taken)
-    (c .before .before .put-word .last .0) (l .place + 4)
-    (c .before .before .put-word .ensures ∙ ap (put (l .buffer) (l .place)) (sym (member d))) four
+    (c .before .before .put-word .last .0) (l .place + 4) stored four
 
 loop-less-2 : tie.Need-loop-less-2 Inv-loop μ-loop
 loop-less-2 c = search needs
