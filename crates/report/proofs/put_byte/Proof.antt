@@ -1,0 +1,21 @@
+-- `report::put_byte` meets its contract.
+use denote.Ref.{now}
+use borrow.Author.Needs.{needs}
+use Rattle.report.proofs.Stores.{stored-byte}
+use Rattle.report.proofs.put_byte.Statement.{statement}
+use Rattle.report.proofs.put_byte.Tie as tie
+
+slice-write-out : tie.Need-slice-write-out
+slice-write-out c = search needs
+
+add-result : tie.Need-add-result
+add-result c = search needs
+
+same-length : tie.Need-same-length
+same-length c = search needs
+
+returns : tie.Need-returns
+returns c = stored-byte (now (c .args .out)) (c .args .at) (c .args .b)
+
+pub put-byte-spec : {M : Type 1} → statement M
+put-byte-spec = tie.close (tie.spec slice-write-out add-result same-length returns)

@@ -1,0 +1,124 @@
+-- `report::put_run` meets its contract: the word, five fields, the line's end.
+use Prim.Native.Nat.{ℕ}
+use mathlib.Core.Path.{sym, ap, _∙_}
+use mathlib.Core.List.{List, [], _∷_, _++_}
+use Rattle.files.specs.Numbers.{numberOf}
+use Rattle.orders.specs.declared.Replayed.{Replayed}
+use Rattle.report.specs.Lines.{field, run, runLine}
+use Rattle.report.specs.Stores.{Room}
+use Rattle.report.proofs.Stores.{room-first, room-rest, room-as, stored-as, then}
+use borrow.Author.Needs.{needs}
+use Rattle.report.proofs.put_run.Statement.{statement}
+use Rattle.report.proofs.put_run.Tie as tie
+
+-- what is left after each part
+abbrev left-6 : Replayed → List ℕ
+left-6 r = 10 ∷ []
+
+abbrev left-5 : Replayed → List ℕ
+left-5 r = field (r .refused) ++ left-6 r
+
+abbrev left-4 : Replayed → List ℕ
+left-4 r = field (r .accesses) ++ left-5 r
+
+abbrev left-3 : Replayed → List ℕ
+left-3 r = field (r .taken) ++ left-4 r
+
+abbrev left-2 : Replayed → List ℕ
+left-2 r = field (r .place) ++ left-3 r
+
+abbrev left-1 : Replayed → List ℕ
+left-1 r = field (numberOf (r .answer)) ++ left-2 r
+
+room-1 : (c : tie.After-put-word) → Room (c .put-word .last .0) (c .put-word .result) (left-1 (c .before .before .before .before .args .r))
+unfolding runLine
+room-1 c = room-rest (c .put-word .ensures) (c .before .before .before .before .pre)
+
+room-2 : (c : tie.After-put-field) → Room (c .put-field .last .0) (c .put-field .result) (left-2 (c .before .before .before .before .before .before .before .before .before .args .r))
+room-2 c = room-rest (stored-as (ap field (c .before .number .ensures)) (c .put-field .ensures)) (room-1 (c .before .before .before .before .before))
+
+room-3 : (c : tie.After-put-field2) → Room (c .put-field2 .last .0) (c .put-field2 .result) (left-3 (c .before .before .before .before .before .before .before .before .before .before .before .before .before .args .r))
+room-3 c = room-rest (c .put-field2 .ensures) (room-2 (c .before .before .before .before))
+
+room-4 : (c : tie.After-put-field3) → Room (c .put-field3 .last .0) (c .put-field3 .result) (left-4 (c .before .before .before .before .before .before .before .before .before .before .before .before .before .before .before .before .before .before .args .r))
+room-4 c = room-rest (c .put-field3 .ensures) (room-3 (c .before .before .before .before .before))
+
+room-5 : (c : tie.After-put-field4) → Room (c .put-field4 .last .0) (c .put-field4 .result) (left-5 (c .before .before .before .before .before .before .before .before .before .before .before .before .before .before .before .before .before .before .before .before .before .before .before .args .r))
+room-5 c = room-rest (c .put-field4 .ensures) (room-4 (c .before .before .before .before .before))
+
+room-6 : (c : tie.After-put-field5) → Room (c .put-field5 .last .0) (c .put-field5 .result) (left-6 (c .before .before .before .before .before .before .before .before .before .before .before .before .before .before .before .before .before .before .before .before .before .before .before .before .before .before .before .before .args .r))
+room-6 c = room-rest (c .put-field5 .ensures) (room-5 (c .before .before .before .before .before))
+
+slice-aggregate-put-word : tie.Need-slice-aggregate-put-word
+slice-aggregate-put-word c = search needs
+
+put-word-requires : tie.Need-put-word-requires
+unfolding runLine
+put-word-requires c κs = room-first (run) (left-1 (c .before .before .before .args .r)) (c .before .before .before .pre)
+
+number-requires : tie.Need-number-requires
+number-requires c κs = search needs
+
+cast-put-field : tie.Need-cast-put-field
+cast-put-field c = search needs
+
+put-field-requires : tie.Need-put-field-requires
+put-field-requires c κs = room-as (ap field (sym (c .number .ensures))) (room-first (field (numberOf ((c .before .before .before .before .before .before .before .before .args .r) .answer))) (left-2 (c .before .before .before .before .before .before .before .before .args .r)) (room-1 (c .before .before .before .before)))
+
+put-field-requires-2 : tie.Need-put-field-requires-2
+put-field-requires-2 c κs = room-first (field ((c .before .before .before .before .before .before .before .before .before .before .before .before .args .r) .place)) (left-3 (c .before .before .before .before .before .before .before .before .before .before .before .before .args .r)) (room-2 (c .before .before .before))
+
+cast-put-field-2 : tie.Need-cast-put-field-2
+cast-put-field-2 c = search needs
+
+put-field-requires-3 : tie.Need-put-field-requires-3
+put-field-requires-3 c κs = room-first (field ((c .before .before .before .before .before .before .before .before .before .before .before .before .before .before .before .before .before .args .r) .taken)) (left-4 (c .before .before .before .before .before .before .before .before .before .before .before .before .before .before .before .before .before .args .r)) (room-3 (c .before .before .before .before))
+
+cast-put-field-3 : tie.Need-cast-put-field-3
+cast-put-field-3 c = search needs
+
+put-field-requires-4 : tie.Need-put-field-requires-4
+put-field-requires-4 c κs = room-first (field ((c .before .before .before .before .before .before .before .before .before .before .before .before .before .before .before .before .before .before .before .before .before .before .args .r) .accesses)) (left-5 (c .before .before .before .before .before .before .before .before .before .before .before .before .before .before .before .before .before .before .before .before .before .before .args .r)) (room-4 (c .before .before .before .before))
+
+cast-put-field-4 : tie.Need-cast-put-field-4
+cast-put-field-4 c = search needs
+
+put-field-requires-5 : tie.Need-put-field-requires-5
+put-field-requires-5 c κs = room-first (field ((c .before .before .before .before .before .before .before .before .before .before .before .before .before .before .before .before .before .before .before .before .before .before .before .before .before .before .before .args .r) .refused)) (left-6 (c .before .before .before .before .before .before .before .before .before .before .before .before .before .before .before .before .before .before .before .before .before .before .before .before .before .before .before .args .r)) (room-5 (c .before .before .before .before))
+
+put-byte-requires : tie.Need-put-byte-requires
+put-byte-requires c κs = room-6 (c .before .before .before)
+
+same-length : tie.Need-same-length
+same-length c = c .before .before .put-byte .kept .0 ∙ c .before .before .before .before .before .before .put-field5 .kept .0 ∙ c .before .before .before .before .before .before .before .before .before .before .before .put-field4 .kept .0 ∙ c .before .before .before .before .before .before .before .before .before .before .before .before .before .before .before .before .put-field3 .kept .0 ∙ c .before .before .before .before .before .before .before .before .before .before .before .before .before .before .before .before .before .before .before .before .before .put-field2 .kept .0 ∙ c .before .before .before .before .before .before .before .before .before .before .before .before .before .before .before .before .before .before .before .before .before .before .before .before .before .put-field .kept .0 ∙ c .before .before .before .before .before .before .before .before .before .before .before .before .before .before .before .before .before .before .before .before .before .before .before .before .before .before .before .before .before .before .put-word .kept .0
+
+returns : tie.Need-returns
+unfolding runLine
+returns c =
+    then (c .before .before .before .before .before .before .before .before .before .before .before .before .before .before .before .before .before .before .before .before .before .before .before .before .before .before .before .before .before .before .put-word .ensures)
+    (then (stored-as (ap field (c .before .before .before .before .before .before .before .before .before .before .before .before .before .before .before .before .before .before .before .before .before .before .before .before .before .before .number .ensures)) (c .before .before .before .before .before .before .before .before .before .before .before .before .before .before .before .before .before .before .before .before .before .before .before .before .before .put-field .ensures))
+    (then (c .before .before .before .before .before .before .before .before .before .before .before .before .before .before .before .before .before .before .before .before .before .put-field2 .ensures)
+    (then (c .before .before .before .before .before .before .before .before .before .before .before .before .before .before .before .before .put-field3 .ensures)
+    (then (c .before .before .before .before .before .before .before .before .before .before .before .put-field4 .ensures)
+    (then (c .before .before .before .before .before .before .put-field5 .ensures)
+    (c .before .before .put-byte .ensures))))))
+
+pub put-run-spec : {M : Type 1} → statement M
+put-run-spec =
+    tie.close
+    (tie.spec
+    slice-aggregate-put-word
+    put-word-requires
+    number-requires
+    cast-put-field
+    put-field-requires
+    put-field-requires-2
+    cast-put-field-2
+    put-field-requires-3
+    cast-put-field-3
+    put-field-requires-4
+    cast-put-field-4
+    put-field-requires-5
+    put-byte-requires
+    same-length
+    returns)

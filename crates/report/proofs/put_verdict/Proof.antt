@@ -1,0 +1,104 @@
+-- `report::put_verdict` meets its contract: the word, four fields, the line's end.
+use Prim.Native.Nat.{ℕ}
+use mathlib.Core.Path.{_∙_}
+use mathlib.Core.List.{List, [], _∷_, _++_}
+use Rattle.views.specs.declared.FileVerdict.{FileVerdict}
+use Rattle.report.specs.Lines.{field, verdict, verdictLine}
+use Rattle.report.specs.Stores.{Room}
+use Rattle.report.proofs.Stores.{room-first, room-rest, then}
+use borrow.Author.Needs.{needs}
+use Rattle.report.proofs.put_verdict.Statement.{statement}
+use Rattle.report.proofs.put_verdict.Tie as tie
+
+-- what is left after each part
+abbrev left-5 : FileVerdict → List ℕ
+left-5 v = 10 ∷ []
+
+abbrev left-4 : FileVerdict → List ℕ
+left-4 v = field (v .j) ++ left-5 v
+
+abbrev left-3 : FileVerdict → List ℕ
+left-3 v = field (v .i) ++ left-4 v
+
+abbrev left-2 : FileVerdict → List ℕ
+left-2 v = field (v .place) ++ left-3 v
+
+abbrev left-1 : FileVerdict → List ℕ
+left-1 v = field (v .number) ++ left-2 v
+
+room-1 : (c : tie.After-put-word) → Room (c .put-word .last .0) (c .put-word .result) (left-1 (c .before .before .before .before .args .v))
+unfolding verdictLine
+room-1 c = room-rest (c .put-word .ensures) (c .before .before .before .before .pre)
+
+room-2 : (c : tie.After-put-field) → Room (c .put-field .last .0) (c .put-field .result) (left-2 (c .before .before .before .before .before .before .before .before .before .args .v))
+room-2 c = room-rest (c .put-field .ensures) (room-1 (c .before .before .before .before .before))
+
+room-3 : (c : tie.After-put-field2) → Room (c .put-field2 .last .0) (c .put-field2 .result) (left-3 (c .before .before .before .before .before .before .before .before .before .before .before .before .before .args .v))
+room-3 c = room-rest (c .put-field2 .ensures) (room-2 (c .before .before .before .before))
+
+room-4 : (c : tie.After-put-field3) → Room (c .put-field3 .last .0) (c .put-field3 .result) (left-4 (c .before .before .before .before .before .before .before .before .before .before .before .before .before .before .before .before .before .before .args .v))
+room-4 c = room-rest (c .put-field3 .ensures) (room-3 (c .before .before .before .before .before))
+
+room-5 : (c : tie.After-put-field4) → Room (c .put-field4 .last .0) (c .put-field4 .result) (left-5 (c .before .before .before .before .before .before .before .before .before .before .before .before .before .before .before .before .before .before .before .before .before .before .before .args .v))
+room-5 c = room-rest (c .put-field4 .ensures) (room-4 (c .before .before .before .before .before))
+
+slice-aggregate-put-word : tie.Need-slice-aggregate-put-word
+slice-aggregate-put-word c = search needs
+
+put-word-requires : tie.Need-put-word-requires
+unfolding verdictLine
+put-word-requires c κs = room-first (verdict) (left-1 (c .before .before .before .args .v)) (c .before .before .before .pre)
+
+cast-put-field : tie.Need-cast-put-field
+cast-put-field c = search needs
+
+put-field-requires : tie.Need-put-field-requires
+put-field-requires c κs = room-first (field ((c .before .before .before .before .before .before .before .before .args .v) .number)) (left-2 (c .before .before .before .before .before .before .before .before .args .v)) (room-1 (c .before .before .before .before))
+
+put-field-requires-2 : tie.Need-put-field-requires-2
+put-field-requires-2 c κs = room-first (field ((c .before .before .before .before .before .before .before .before .before .before .before .before .args .v) .place)) (left-3 (c .before .before .before .before .before .before .before .before .before .before .before .before .args .v)) (room-2 (c .before .before .before))
+
+cast-put-field-2 : tie.Need-cast-put-field-2
+cast-put-field-2 c = search needs
+
+put-field-requires-3 : tie.Need-put-field-requires-3
+put-field-requires-3 c κs = room-first (field ((c .before .before .before .before .before .before .before .before .before .before .before .before .before .before .before .before .before .args .v) .i)) (left-4 (c .before .before .before .before .before .before .before .before .before .before .before .before .before .before .before .before .before .args .v)) (room-3 (c .before .before .before .before))
+
+cast-put-field-3 : tie.Need-cast-put-field-3
+cast-put-field-3 c = search needs
+
+put-field-requires-4 : tie.Need-put-field-requires-4
+put-field-requires-4 c κs = room-first (field ((c .before .before .before .before .before .before .before .before .before .before .before .before .before .before .before .before .before .before .before .before .before .before .args .v) .j)) (left-5 (c .before .before .before .before .before .before .before .before .before .before .before .before .before .before .before .before .before .before .before .before .before .before .args .v)) (room-4 (c .before .before .before .before))
+
+put-byte-requires : tie.Need-put-byte-requires
+put-byte-requires c κs = room-5 (c .before .before .before)
+
+same-length : tie.Need-same-length
+same-length c = c .before .before .put-byte .kept .0 ∙ c .before .before .before .before .before .before .put-field4 .kept .0 ∙ c .before .before .before .before .before .before .before .before .before .before .before .put-field3 .kept .0 ∙ c .before .before .before .before .before .before .before .before .before .before .before .before .before .before .before .before .put-field2 .kept .0 ∙ c .before .before .before .before .before .before .before .before .before .before .before .before .before .before .before .before .before .before .before .before .put-field .kept .0 ∙ c .before .before .before .before .before .before .before .before .before .before .before .before .before .before .before .before .before .before .before .before .before .before .before .before .before .put-word .kept .0
+
+returns : tie.Need-returns
+unfolding verdictLine
+returns c =
+    then (c .before .before .before .before .before .before .before .before .before .before .before .before .before .before .before .before .before .before .before .before .before .before .before .before .before .put-word .ensures)
+    (then (c .before .before .before .before .before .before .before .before .before .before .before .before .before .before .before .before .before .before .before .before .put-field .ensures)
+    (then (c .before .before .before .before .before .before .before .before .before .before .before .before .before .before .before .before .put-field2 .ensures)
+    (then (c .before .before .before .before .before .before .before .before .before .before .before .put-field3 .ensures)
+    (then (c .before .before .before .before .before .before .put-field4 .ensures)
+    (c .before .before .put-byte .ensures)))))
+
+pub put-verdict-spec : {M : Type 1} → statement M
+put-verdict-spec =
+    tie.close
+    (tie.spec
+    slice-aggregate-put-word
+    put-word-requires
+    cast-put-field
+    put-field-requires
+    put-field-requires-2
+    cast-put-field-2
+    put-field-requires-3
+    cast-put-field-3
+    put-field-requires-4
+    put-byte-requires
+    same-length
+    returns)
