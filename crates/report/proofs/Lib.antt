@@ -5,3 +5,4 @@ pub mod Fits
 pub mod Pairs
 pub mod Processes
 pub mod Determined
+pub mod Examples

@@ -6,7 +6,6 @@ use mathlib.Core.List.{List, [], _∷_, _++_}
 use Rattle.report.specs.Lines.{decimal, comma, pair}
 use Rattle.report.specs.Stores.{Room}
 use Rattle.report.proofs.Stores.{room-first, room-rest, then}
-use borrow.Author.Needs.{needs}
 use Rattle.report.proofs.put_pair.Statement.{statement}
 use Rattle.report.proofs.put_pair.Tie as tie
 

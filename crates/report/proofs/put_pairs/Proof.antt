@@ -1,6 +1,5 @@
 -- `report::put_pairs` meets its contract. The loop's invariant: the pairs of the processes after the first i are left to store.
 use Prim.Native.Nat.{_-_}
-use native.Mathlib.Omega.{arith}
 use denote.Ref.{now}
 use borrow.Author.Needs.{needs}
 use Rattle.files.proofs.Tests.{told}

@@ -1,5 +1,5 @@
 -- `report::put_processes` meets its contract. The loop's invariant: the lines of the first i processes stand.
-use Prim.Native.Nat.{ℕ, _+_, _-_, _^_, _≤_, _<_}
+use Prim.Native.Nat.{_+_, _-_, _≤_}
 use native.Mathlib.Omega.{arith}
 use lib.ListN.{length, getD}
 use mir.Syntax.{w32}

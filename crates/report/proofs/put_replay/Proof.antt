@@ -5,7 +5,6 @@ use native.Mathlib.Omega.{arith}
 use lib.ListN.{length}
 use denote.Ref.{now}
 use Rattle.report.specs.Lines.{runLine, replayLines, lastLine}
-use Rattle.report.specs.Stores.{Room}
 use Rattle.report.proofs.Fits.{run-length, last-length}
 use Rattle.report.proofs.Stores.{stored-length, then}
 use borrow.Author.Needs.{needs}

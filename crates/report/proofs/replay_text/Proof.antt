@@ -1,5 +1,4 @@
 -- `report::replay_text` meets its contract. A replay leaves a well shaped state, so that every look shows what it shows.
-use Prim.Native.Nat.{ℕ, _≤_}
 use mathlib.Core.Path.{_≡_, sym, ap, subst, _∙_}
 use native.Mathlib.Omega.{arith}
 use lib.ListN.{length}

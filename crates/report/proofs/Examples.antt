@@ -1,0 +1,129 @@
+-- The printed texts, computed. The machine's test of its own shape is dear to compute, so the printed run is first rid of it.
+use Prim.Native.Nat.{ℕ, zero, suc, _+_, _/_, _%_, _≤_}
+use mathlib.Core.Path.{_≡_, refl, sym, ap, _∙_}
+use mathlib.Core.List.{List, [], _∷_, _++_}
+use lib.Dec.{lit≤, lit<}
+use lib.ListN.{length}
+use Rattle.sets.specs.Sets.{has, plus, first, every, count, within, size}
+use Rattle.rules.specs.declared.Machine.{Machine}
+use Rattle.rules.specs.declared.Called.{Called}
+use Rattle.rules.specs.declared.Answer.the-variants.{NotShaped}
+use Rattle.rules.specs.State.{stageOf}
+use Rattle.rules.specs.Shape.{shaped}
+use Rattle.rules.specs.Calls.{refused, enterAt, enterOf, crashAt, crashOf, stepOf, reading, settle, access, rowValues}
+use Rattle.rules.specs.Statements.{Meets}
+use Rattle.rules.proofs.Laws.Small.{cond-true}
+use Rattle.rules.proofs.Laws.Shape.{record-shaped}
+use Rattle.rules.proofs.Laws.Keeps.{meets-fresh, every-state-meets}
+use Rattle.rules.proofs.Laws.Bare.{inRange, bareStep, step-bare}
+use Rattle.files.specs.declared.FileAnswer.the-variants.{Whole}
+use Rattle.files.specs.declared.Header.{Header}
+use Rattle.files.specs.declared.Order.{Order}
+use Rattle.files.specs.Records.{markOf, markAt, headerOf, orderAt, viewAt}
+use Rattle.files.specs.ViewFile.{joined, testedAt, valuesRead, readFrom, readOf}
+use Rattle.views.specs.Findings.{agree, inside, breaks, ofOne, ofPair, findings, checkOf}
+use Rattle.views.specs.Verdict.{verdictOf}
+use Rattle.orders.specs.declared.Run.{Run}
+use Rattle.orders.specs.declared.Replayed.{Replayed}
+use Rattle.orders.specs.Replays.{onward, replayBy, replayOf, ordersFrom}
+use Rattle.orders.specs.Turns.{begun, counted, ends, resumed}
+use Rattle.orders.specs.Examples.{MN, printedFile}
+use Rattle.orders.proofs.Turns.{resumed-took, resumed-ended, resumed-begun}
+use Rattle.report.specs.Lines.{digitsIn, decimal, pair, pairsFrom, sightLine, processLine, runLine, partaking, lastLine}
+use Rattle.report.specs.Lines.{replayLines, replayText, verdictLine, verdictText}
+use Rattle.report.specs.Examples.{Texts, printed, refusedHeader, unlike}
+use Rattle.report.proofs.Digits.{decimal-below, decimal-above}
+use Rattle.report.proofs.Fits.{replay-short, replay-long, verdict-long}
+
+-- an order of a well shaped machine, without the test
+abbrev bareEnter : Machine → ℕ → ℕ → Called
+bareEnter m p v = inRange m p (enterAt (stageOf m p) m p v)
+
+abbrev bareCrash : Machine → ℕ → Called
+bareCrash m p = inRange m p (crashAt (stageOf m p) m p)
+
+enter-bare : (n : ℕ) (m : Machine) → Meets n m → (p v : ℕ) → enterOf m p v ≡ bareEnter m p v
+unfolding enterOf
+enter-bare n m M p v = cond-true (shaped m) (inRange m p (enterAt (stageOf m p) m p v)) (refused NotShaped m) (record-shaped m (M .shape))
+
+crash-bare : (n : ℕ) (m : Machine) → Meets n m → (p : ℕ) → crashOf m p ≡ bareCrash m p
+unfolding crashOf
+crash-bare n m M p = cond-true (shaped m) (inRange m p (crashAt (stageOf m p) m p)) (refused NotShaped m) (record-shaped m (M .shape))
+
+-- a file's orders from a place on, taken after those that a run has had
+abbrev bareBy : List ℕ → ℕ → Order → Run → (ℕ → Run → Replayed) → Replayed
+bareBy s at Order.End r next = ends Whole (length s) r
+bareBy s at (Order.Fault a) r next = ends a at r
+bareBy s at (Order.Enter p v) r next = next (at + 7) (counted r (bareEnter (r .machine) p v) 0)
+bareBy s at (Order.Step p) r next = next (at + 3) (counted r (bareStep (r .machine) p) 1)
+bareBy s at (Order.Crash p) r next = next (at + 3) (counted r (bareCrash (r .machine) p) 0)
+
+unfoldable bareFrom : ℕ → List ℕ → ℕ → Run → Replayed
+bareFrom zero s at r = resumed r (ordersFrom 0 s at)
+bareFrom (suc k) s at r = bareBy s at (orderAt s at) r (bareFrom k s)
+
+resumed-bare : (n k : ℕ) (s : List ℕ) (at : ℕ) (r : Run) → Meets n (r .machine) → resumed r (ordersFrom k s at) ≡ bareFrom k s at r
+unfolding bareFrom ordersFrom
+resumed-bare n zero s at r M = refl
+resumed-bare n (suc k) s at r M = by (orderAt s at) (λ at′ r′ M′. resumed-bare n k s at′ r′ M′)
+  where
+    by : (o : Order) → ((at′ : ℕ) (r′ : Run) → Meets n (r′ .machine) → resumed r′ (ordersFrom k s at′) ≡ bareFrom k s at′ r′)
+        → resumed r (onward s at o (ordersFrom k s)) ≡ bareBy s at o r (bareFrom k s)
+    by Order.End f = sym (resumed-ended r Whole (length s))
+    by (Order.Fault a) f = sym (resumed-ended r a at)
+    by (Order.Enter p v) f =
+        resumed-took r _ (ordersFrom k s (at + 7)) ∙ f (at + 7) (counted r (enterOf (r .machine) p v) 0) (every-state-meets .enter n (r .machine) M p v)
+        ∙ ap (λ (a : Called). bareFrom k s (at + 7) (counted r a 0)) (enter-bare n (r .machine) M p v)
+    by (Order.Step p) f =
+        resumed-took r _ (ordersFrom k s (at + 3)) ∙ f (at + 3) (counted r (stepOf (r .machine) p) 1) (every-state-meets .step n (r .machine) M p)
+        ∙ ap (λ (a : Called). bareFrom k s (at + 3) (counted r a 1)) (step-bare n (r .machine) M p)
+    by (Order.Crash p) f =
+        resumed-took r _ (ordersFrom k s (at + 3)) ∙ f (at + 3) (counted r (crashOf (r .machine) p) 0) (every-state-meets .crash n (r .machine) M p)
+        ∙ ap (λ (a : Called). bareFrom k s (at + 3) (counted r a 0)) (crash-bare n (r .machine) M p)
+
+replay-bare : (s : List ℕ) (budget n : ℕ) → headerOf s ≡ Header.Of n → 1 ≤ n → n ≤ 32 → replayOf s budget ≡ bareFrom budget s 3 (begun n)
+unfolding replayOf
+replay-bare s budget n e l h =
+    ap (replayBy s budget) e ∙ sym (resumed-begun n (ordersFrom budget s 3)) ∙ resumed-bare n budget s 3 (begun n) (meets-fresh n l h)
+
+printed-lines : replayLines (bareFrom 65535 printedFile 3 (begun 2)) ≡ printed
+unfolding replayLines runLine bareFrom orderAt markAt markOf access settle reading has plus count size joined processLine sightLine rowValues
+    pairsFrom pair decimal digitsIn lastLine partaking
+printed-lines = refl
+
+printed-run : replayText printedFile ≡ printed
+unfolding headerOf markAt markOf
+printed-run = replay-short printedFile (lit≤ tt) ∙ ap replayLines (replay-bare printedFile 65535 2 refl (lit≤ tt) (lit≤ tt)) ∙ printed-lines
+
+refused-header : replayText (MN 33) ≡ refusedHeader
+unfolding replayText replayOf headerOf markAt markOf replayLines runLine joined processLine sightLine decimal digitsIn lastLine partaking count
+refused-header = refl
+
+unlike-views : verdictText unlike ≡ 118 ∷ 101 ∷ 114 ∷ 100 ∷ 105 ∷ 99 ∷ 116 ∷ 32 ∷ 50 ∷ 50 ∷ 32 ∷ 51 ∷ 55 ∷ 32 ∷ 49 ∷ 32 ∷ 50 ∷ 10 ∷ []
+unfolding verdictText verdictLine decimal digitsIn verdictOf checkOf findings ofOne ofPair breaks agree inside joined readOf readFrom headerOf viewAt markAt markOf
+    testedAt valuesRead has plus first every count within size
+unlike-views = refl
+
+nothing : verdictText [] ≡ 118 ∷ 101 ∷ 114 ∷ 100 ∷ 105 ∷ 99 ∷ 116 ∷ 32 ∷ 57 ∷ 32 ∷ 48 ∷ 32 ∷ 48 ∷ 32 ∷ 48 ∷ 10 ∷ []
+unfolding verdictText verdictLine decimal digitsIn verdictOf readOf headerOf markAt markOf
+nothing = refl
+
+-- one digit more
+digit-more : (n : ℕ) {ds : List ℕ} → 10 ≤ n → decimal (n / 10) ≡ ds → decimal n ≡ ds ++ (48 + n % 10) ∷ []
+digit-more n h e = decimal-above n h ∙ ap (λ (x : List ℕ). x ++ (48 + n % 10) ∷ []) e
+
+largest : decimal 4294967295 ≡ 52 ∷ 50 ∷ 57 ∷ 52 ∷ 57 ∷ 54 ∷ 55 ∷ 50 ∷ 57 ∷ 53 ∷ []
+largest =
+    digit-more 4294967295 (lit≤ tt) (digit-more 429496729 (lit≤ tt) (digit-more 42949672 (lit≤ tt) (digit-more 4294967 (lit≤ tt) (digit-more 429496 (lit≤ tt) (digit-more 42949 (lit≤ tt) (digit-more 4294 (lit≤ tt) (digit-more 429 (lit≤ tt) (digit-more 42 (lit≤ tt) (decimal-below 4 (lit< tt))))))))))
+
+pub texts : Texts
+texts =
+    record {
+      printed-run = printed-run;
+      refused-header = refused-header;
+      unlike-views = unlike-views;
+      nothing = nothing;
+      long-orders = replay-long;
+      long-views = verdict-long;
+      largest = largest;
+    }

@@ -1,0 +1,41 @@
+-- Printed texts: document 01's own, the lines of a refused header, `too long`, and verdicts.
+use Prim.Native.Nat.{ℕ, _<_}
+use mathlib.Core.Path.{_≡_}
+use mathlib.Core.List.{List, [], _∷_, _++_}
+use lib.ListN.{length}
+use Rattle.files.specs.Records.{wordBytes}
+use Rattle.orders.specs.Examples.{MN, printedFile}
+use Rattle.report.specs.Lines.{decimal, replayText, verdictText}
+
+-- "run 0 47 12 9 1", "p 1 finished 1 6 1:7", "p 2 finished 2 3 1:7,2:9", "participants 2"
+abbrev pub printed : List ℕ
+printed =
+    (114 ∷ 117 ∷ 110 ∷ 32 ∷ 48 ∷ 32 ∷ 52 ∷ 55 ∷ 32 ∷ 49 ∷ 50 ∷ 32 ∷ 57 ∷ 32 ∷ 49 ∷ 10 ∷ [])
+    ++ (112 ∷ 32 ∷ 49 ∷ 32 ∷ 102 ∷ 105 ∷ 110 ∷ 105 ∷ 115 ∷ 104 ∷ 101 ∷ 100 ∷ 32 ∷ 49 ∷ 32 ∷ 54 ∷ 32 ∷ 49 ∷ 58 ∷ 55 ∷ 10 ∷ [])
+    ++ (112 ∷ 32 ∷ 50 ∷ 32 ∷ 102 ∷ 105 ∷ 110 ∷ 105 ∷ 115 ∷ 104 ∷ 101 ∷ 100 ∷ 32 ∷ 50 ∷ 32 ∷ 51 ∷ 32 ∷ 49 ∷ 58 ∷ 55 ∷ 44 ∷ 50 ∷ 58 ∷ 57 ∷ 10 ∷ [])
+    ++ (112 ∷ 97 ∷ 114 ∷ 116 ∷ 105 ∷ 99 ∷ 105 ∷ 112 ∷ 97 ∷ 110 ∷ 116 ∷ 115 ∷ 32 ∷ 50 ∷ 10 ∷ [])
+
+-- "run 8 0 0 0 0", "p 1 absent 0 0 -", "participants 0"
+abbrev pub refusedHeader : List ℕ
+refusedHeader =
+    (114 ∷ 117 ∷ 110 ∷ 32 ∷ 56 ∷ 32 ∷ 48 ∷ 32 ∷ 48 ∷ 32 ∷ 48 ∷ 32 ∷ 48 ∷ 10 ∷ [])
+    ++ (112 ∷ 32 ∷ 49 ∷ 32 ∷ 97 ∷ 98 ∷ 115 ∷ 101 ∷ 110 ∷ 116 ∷ 32 ∷ 48 ∷ 32 ∷ 48 ∷ 32 ∷ 45 ∷ 10 ∷ [])
+    ++ (112 ∷ 97 ∷ 114 ∷ 116 ∷ 105 ∷ 99 ∷ 105 ∷ 112 ∷ 97 ∷ 110 ∷ 116 ∷ 115 ∷ 32 ∷ 48 ∷ 10 ∷ [])
+
+-- P10's file, and "verdict 22 45 1 2"
+abbrev pub unlike : List ℕ
+unlike =
+    MN 3 ++ (86 ∷ 87 ∷ 1 ∷ wordBytes 3) ++ wordBytes 10 ++ wordBytes 20
+    ++ (86 ∷ 87 ∷ 2 ∷ wordBytes 7) ++ wordBytes 10 ++ wordBytes 20 ++ wordBytes 30
+
+pub record Texts : Type 0 where
+  pub printed-run : replayText printedFile ≡ printed
+  pub refused-header : replayText (MN 33) ≡ refusedHeader
+  pub unlike-views : verdictText unlike ≡ 118 ∷ 101 ∷ 114 ∷ 100 ∷ 105 ∷ 99 ∷ 116 ∷ 32 ∷ 50 ∷ 50 ∷ 32 ∷ 51 ∷ 55 ∷ 32 ∷ 49 ∷ 32 ∷ 50 ∷ 10 ∷ []
+  -- "verdict 9 0 0 0"
+  pub nothing : verdictText [] ≡ 118 ∷ 101 ∷ 114 ∷ 100 ∷ 105 ∷ 99 ∷ 116 ∷ 32 ∷ 57 ∷ 32 ∷ 48 ∷ 32 ∷ 48 ∷ 32 ∷ 48 ∷ 10 ∷ []
+  -- one byte more than 65,535, whatever the bytes are
+  pub long-orders : (s : List ℕ) → 65535 < length s → replayText s ≡ 116 ∷ 111 ∷ 111 ∷ 32 ∷ 108 ∷ 111 ∷ 110 ∷ 103 ∷ 10 ∷ []
+  pub long-views : (s : List ℕ) → 65535 < length s → verdictText s ≡ 116 ∷ 111 ∷ 111 ∷ 32 ∷ 108 ∷ 111 ∷ 110 ∷ 103 ∷ 10 ∷ []
+  -- the largest value that a register holds, 4294967295
+  pub largest : decimal 4294967295 ≡ 52 ∷ 50 ∷ 57 ∷ 52 ∷ 57 ∷ 54 ∷ 55 ∷ 50 ∷ 57 ∷ 53 ∷ []
