@@ -72,7 +72,8 @@ resumed-bare n (suc k) s at r M = by (orderAt s at) (λ at′ r′ M′. resumed
     by Order.End f = sym (resumed-ended r Whole (length s))
     by (Order.Fault a) f = sym (resumed-ended r a at)
     by (Order.Enter p v) f =
-        resumed-took r _ (ordersFrom k s (at + 7)) ∙ f (at + 7) (counted r (enterOf (r .machine) p v) 0) (every-state-meets .enter n (r .machine) M p v)
+        resumed-took r _ (ordersFrom k s (at + 7))
+        ∙ f (at + 7) (counted r (enterOf (r .machine) p v) 0) (every-state-meets .enter n (r .machine) M p v)
         ∙ ap (λ (a : Called). bareFrom k s (at + 7) (counted r a 0)) (enter-bare n (r .machine) M p v)
     by (Order.Step p) f =
         resumed-took r _ (ordersFrom k s (at + 3)) ∙ f (at + 3) (counted r (stepOf (r .machine) p) 1) (every-state-meets .step n (r .machine) M p)
@@ -114,7 +115,10 @@ digit-more n h e = decimal-above n h ∙ ap (λ (x : List ℕ). x ++ (48 + n % 1
 
 largest : decimal 4294967295 ≡ 52 ∷ 50 ∷ 57 ∷ 52 ∷ 57 ∷ 54 ∷ 55 ∷ 50 ∷ 57 ∷ 53 ∷ []
 largest =
-    digit-more 4294967295 (lit≤ tt) (digit-more 429496729 (lit≤ tt) (digit-more 42949672 (lit≤ tt) (digit-more 4294967 (lit≤ tt) (digit-more 429496 (lit≤ tt) (digit-more 42949 (lit≤ tt) (digit-more 4294 (lit≤ tt) (digit-more 429 (lit≤ tt) (digit-more 42 (lit≤ tt) (decimal-below 4 (lit< tt))))))))))
+    digit-more 4294967295 (lit≤ tt) (digit-more 429496729 (lit≤ tt)
+    (digit-more 42949672 (lit≤ tt) (digit-more 4294967 (lit≤ tt)
+    (digit-more 429496 (lit≤ tt) (digit-more 42949 (lit≤ tt)
+    (digit-more 4294 (lit≤ tt) (digit-more 429 (lit≤ tt) (digit-more 42 (lit≤ tt) (decimal-below 4 (lit< tt))))))))))
 
 pub texts : Texts
 texts =

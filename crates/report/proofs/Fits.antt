@@ -57,7 +57,14 @@ pair-length : (later : Bool) (i v : ℕ) → i < 100 → v < 2 ^ 32 → length (
 unfolding pair
 pair-length later i v h l =
     let a : length (comma later) ≤ 1 = comma-length later in
-    omega (arith, length-append (comma later) (decimal i ++ 58 ∷ decimal v), length-append (decimal i) (58 ∷ decimal v), two-digits i h, ten-digits v (omega (arith, l)))
+    omega (
+      arith,
+      length-append (comma later) (decimal i ++ 58 ∷ decimal v),
+      length-append (decimal i)
+          (58 ∷ decimal v),
+      two-digits i h,
+      ten-digits v (omega (arith, l)),
+    )
   where
     comma-length : (t : Bool) → length (comma t) ≤ 1
     comma-length true = omega arith
@@ -71,7 +78,8 @@ pairs-length later w values i (suc k) h f =
     go (has w i) (pairs-length true w values (suc i) k (omega arith) f) (pairs-length later w values (suc i) k (omega arith) f)
   where
     go : (t : Bool) → length (pairsFrom true w values (suc i) k) ≤ 14 * k → length (pairsFrom later w values (suc i) k) ≤ 14 * k
-        → length (cond t (pair later i (getD values (i - 1) 0) ++ pairsFrom true w values (suc i) k) (pairsFrom later w values (suc i) k)) ≤ 14 * suc k
+        → length (cond t (pair later i (getD values (i - 1) 0) ++ pairsFrom true w values (suc i) k)
+        (pairsFrom later w values (suc i) k)) ≤ 14 * suc k
     go true a b =
         omega (
           arith,
@@ -100,7 +108,8 @@ pub sight-length : (i : ℕ) (s : Sight) → i < 100 → s .level < 2 ^ 32 → s
 unfolding sightLine
 sight-length i s h x k f =
     let word : length p ≤ 1 = omega arith in
-    line-length (p ∷ field i ∷ stageWord (s .standing) ∷ field (s .level) ∷ field (s .accesses) ∷ (32 ∷ view (s .standing) (s .view) (s .values)) ∷ [])
+    line-length (p ∷ field i ∷ stageWord (s .standing) ∷ field (s .level) ∷ field (s .accesses) ∷
+    (32 ∷ view (s .standing) (s .view) (s .values)) ∷ [])
     (part word
     (part (small-field i h)
     (part (stage-length (s .standing))

@@ -20,7 +20,8 @@ pairs-start b at w values = record { most = omega arith; rest = left-start b at 
 -- the process after the first i, by whether the view names it
 one-more : (later : Bool) (w : ℕ) (values : List ℕ) (i : ℕ) → i < 32 → (t : Bool) → has w (i + 1) ≡ t
     → pairsFrom later w values (suc i) (32 - i)
-    ≡ cond t (pair later (i + 1) (getD values i 0) ++ pairsFrom true w values (suc (i + 1)) (32 - (i + 1))) (pairsFrom later w values (suc (i + 1)) (32 - (i + 1)))
+    ≡ cond t (pair later (i + 1) (getD values i 0) ++ pairsFrom true w values (suc (i + 1)) (32 - (i + 1)))
+    (pairsFrom later w values (suc (i + 1)) (32 - (i + 1)))
 unfolding pairsFrom
 one-more later w values i h t e =
     let k = 32 - (i + 1) in
@@ -28,7 +29,8 @@ one-more later w values i h t e =
     let r : 32 - i ≡ suc k = omega arith in
     let j : i + 1 - 1 ≡ i = omega arith in
     ap₂ (pairsFrom later w values) s r
-    ∙ ap₂ (λ (u : Bool) (x : ℕ). cond u (pair later (i + 1) (getD values x 0) ++ pairsFrom true w values (suc (i + 1)) k) (pairsFrom later w values (suc (i + 1)) k)) e j
+    ∙ ap₂ (λ (u : Bool) (x : ℕ). cond u (pair later (i + 1) (getD values x 0) ++ pairsFrom true w values (suc (i + 1)) k)
+    (pairsFrom later w values (suc (i + 1)) k)) e j
 
 module _ {b₀ values b : List ℕ} {at w place i : ℕ} {later : Bool} (l : Pairs b₀ at w values b place later i) (h : i < 32) where
   pub pair-room : has w (i + 1) ≡ true → Room b₀ at (pairsFrom false w values 1 32) → Room b place (pair later (i + 1) (getD values i 0))
@@ -36,7 +38,8 @@ module _ {b₀ values b : List ℕ} {at w place i : ℕ} {later : Bool} (l : Pai
       room-first (pair later (i + 1) (getD values i 0)) (pairsFrom true w values (suc (i + 1)) (32 - (i + 1)))
       (room-as (one-more later w values i h true e) (left-room r (l .rest)))
 
-  pub pairs-in : has w (i + 1) ≡ true → {b′ : List ℕ} {r : ℕ} → Stored b place (pair later (i + 1) (getD values i 0)) b′ r → Pairs b₀ at w values b′ r true (i + 1)
+  pub pairs-in : has w (i + 1) ≡ true → {b′ : List ℕ} {r : ℕ} → Stored b place (pair later (i + 1) (getD values i 0)) b′ r
+      → Pairs b₀ at w values b′ r true (i + 1)
   pairs-in e s =
       record {
         most = omega arith;

@@ -88,7 +88,12 @@ partakers-more {m} {sum} {i} l h {k} e =
     let f : ℕ → Bool = λ q. takesPart (stageOf m q) in
     let c : count f (i + 1) ≡ tick (f (suc i)) + count f i = ap (count f) s in
     let d : tick (f (suc i)) ≡ k = ap (λ (q : ℕ). tick (takesPart (getD (m .processes) q nobody .stage))) j ∙ sym e in
-    record { most = omega arith; few = omega (arith, l .few, tick-one (takesPart (getD (m .processes) i nobody .stage))); counted = omega (arith, l .counted) }
+    record {
+      most = omega arith;
+      few = omega (arith, l .few, tick-one (takesPart (getD (m .processes) i nobody .stage)));
+      counted = omega
+          (arith, l .counted);
+    }
 
 pub partakers-all : {m : Machine} {sum i : ℕ} → Partakers m sum i → m .n ≤ i → sum ≡ partaking m
 unfolding partaking

@@ -67,7 +67,8 @@ left-next {b₀} {all} {b} {rest} {at} {place} l {x} {b′} {r} rest′ e s =
     record {
       same = stored-length s ∙ l .same;
       room = omega (arith, s .next, ap length e, length-append x rest′, l .room);
-      left = ap₂ (λ (c : List ℕ) (k : ℕ). put c k rest′) (s .stands) (s .next) ∙ sym (put-append b place x rest′) ∙ ap (put b place) (sym e) ∙ l .left;
+      left = ap₂ (λ (c : List ℕ) (k : ℕ). put c k rest′) (s .stands) (s .next) ∙ sym (put-append b place x rest′) ∙ ap (put b place) (sym e)
+          ∙ l .left;
     }
 
 pub left-as : {b₀ all b rest rest′ : List ℕ} {at place : ℕ} → rest ≡ rest′ → Left b₀ at all b place rest → Left b₀ at all b place rest′

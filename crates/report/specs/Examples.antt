@@ -22,7 +22,7 @@ refusedHeader =
     ++ (112 ∷ 32 ∷ 49 ∷ 32 ∷ 97 ∷ 98 ∷ 115 ∷ 101 ∷ 110 ∷ 116 ∷ 32 ∷ 48 ∷ 32 ∷ 48 ∷ 32 ∷ 45 ∷ 10 ∷ [])
     ++ (112 ∷ 97 ∷ 114 ∷ 116 ∷ 105 ∷ 99 ∷ 105 ∷ 112 ∷ 97 ∷ 110 ∷ 116 ∷ 115 ∷ 32 ∷ 48 ∷ 10 ∷ [])
 
--- P10's file, and "verdict 22 45 1 2"
+-- P10's file; its line is "verdict 22 37 1 2"
 abbrev pub unlike : List ℕ
 unlike =
     MN 3 ++ (86 ∷ 87 ∷ 1 ∷ wordBytes 3) ++ wordBytes 10 ++ wordBytes 20

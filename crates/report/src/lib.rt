@@ -1,7 +1,7 @@
 // The printed output of both programs (document 01, "Printed output"), stored as bytes in a lent buffer.
 ghost use mathlib.Core.Path.{_≡_};
-ghost use mathlib.Core.List.{[], _∷_, _++_};
-ghost use Prim.Native.Nat.{_+_, _-_, _*_, _≤_};
+ghost use mathlib.Core.List.{[], _∷_};
+ghost use Prim.Native.Nat.{_+_, _*_, _≤_};
 ghost use lib.ListN.{length};
 ghost use mathlib.Core.Bool.{false};
 ghost use Rattle.report.specs.Lines.{decimal, field, verdictLine, verdictText, stageWord, comma, pair, pairsFrom, view, sightLine};

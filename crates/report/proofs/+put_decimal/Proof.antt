@@ -65,7 +65,8 @@ put-decimal-returns : (t : ℕ) → put-decimal-lts.Need-returns (
   put-decimal.Post,
 ) (put-decimal-at t) put-decimal.Post
 put-decimal-returns t c =
-    stored-as (sym (decimal-below (c .before .before .before .before .before .before .args .n) (c .before .before .before .before .if1 .taken))) (c .before .before .put-byte .ensures)
+    stored-as (sym (decimal-below (c .before .before .before .before .before .before .args .n) (c .before .before .before .before .if1 .taken)))
+    (c .before .before .put-byte .ensures)
 
 put-decimal-put-decimal-requires : (t : ℕ) → put-decimal-lts.Need-put-decimal-requires (
   put-byte-reads.Asked,
@@ -104,7 +105,8 @@ put-decimal-put-byte-requires-2 : (t : ℕ) → put-decimal-lts.Need-put-byte-re
 put-decimal-put-byte-requires-2 t c κs =
     let a = c .before .before .before .before .before .before .before in
     let n = a .args .n in
-    room-rest (c .before .before .before .put-decimal .ensures) (room-as (decimal-above n (c .before .before .before .before .before .if1 .left)) (a .pre .1))
+    room-rest (c .before .before .before .put-decimal .ensures)
+    (room-as (decimal-above n (c .before .before .before .before .before .if1 .left)) (a .pre .1))
 
 put-decimal-same-length-2 : (t : ℕ) → put-decimal-lts.Need-same-length-2 (
   put-byte-reads.Asked,
@@ -122,7 +124,8 @@ put-decimal-returns-2 : (t : ℕ) → put-decimal-lts.Need-returns-2 (
 ) (put-decimal-at t) put-decimal.Post
 put-decimal-returns-2 t c =
     let n = c .before .before .before .before .before .before .before .before .before .before .args .n in
-    stored-as (sym (decimal-above n (c .before .before .before .before .before .before .before .before .if1 .left))) (then (c .before .before .before .before .before .before .put-decimal .ensures) (c .before .before .put-byte2 .ensures))
+    stored-as (sym (decimal-above n (c .before .before .before .before .before .before .before .before .if1 .left)))
+    (then (c .before .before .before .before .before .before .put-decimal .ensures) (c .before .before .put-byte2 .ensures))
 
 pub +put-decimal-spec : {M : Type 1} → statement M
 +put-decimal-spec = close μ-put-decimal λ t. put-decimal-lts.spec (

@@ -29,7 +29,12 @@ taking-part-requires c κs = search needs
 
 add-sum : tie.Need-add-sum Inv-loop μ-loop
 add-sum c =
-    omega (arith, partakers-more (c .before .before .before .loop .inv) (c .before .before .loop-test .taken) (c .taking-part .ensures) .few, c .before .before .before .before .pre)
+    omega (
+      arith,
+      partakers-more (c .before .before .before .loop .inv) (c .before .before .loop-test .taken)
+          (c .taking-part .ensures) .few,
+      c .before .before .before .before .pre,
+    )
 
 add-i : tie.Need-add-i Inv-loop μ-loop
 add-i c = search needs

@@ -12,7 +12,8 @@ slice-aggregate-put-word : tie.Need-slice-aggregate-put-word
 slice-aggregate-put-word c = search needs
 
 -- what is left after the word, and after the number
-left : (c : tie.After-put-word) → Room (c .put-word .last .0) (c .put-word .result) (field (partaking (c .before .before .before .before .args .m)) ++ 10 ∷ [])
+left : (c : tie.After-put-word) → Room (c .put-word .last .0) (c .put-word .result)
+    (field (partaking (c .before .before .before .before .args .m)) ++ 10 ∷ [])
 unfolding lastLine
 left c = room-rest (c .put-word .ensures) (c .before .before .before .before .pre .0)
 
@@ -28,7 +29,9 @@ partaking-requires c κs = search needs
 
 put-field-requires : tie.Need-put-field-requires
 put-field-requires c κs =
-    room-as (ap field (sym (c .partaking .ensures))) (room-first (field (partaking (c .before .before .before .before .before .before .before .before .args .m))) (10 ∷ []) (left (c .before .before .before .before)))
+    room-as (ap field (sym (c .partaking .ensures)))
+    (room-first (field (partaking (c .before .before .before .before .before .before .before .before .args .m))) (10 ∷ [])
+    (left (c .before .before .before .before)))
 
 put-byte-requires : tie.Need-put-byte-requires
 put-byte-requires c κs = end (c .before .before .before)
@@ -40,7 +43,8 @@ returns : tie.Need-returns
 unfolding lastLine
 returns c =
     then (c .before .before .before .before .before .before .before .before .before .before .before .put-word .ensures)
-    (then (stored-as (ap field (c .before .before .before .before .before .before .before .partaking .ensures)) (c .before .before .before .before .before .before .put-field .ensures)) (c .before .before .put-byte .ensures))
+    (then (stored-as (ap field (c .before .before .before .before .before .before .before .partaking .ensures))
+    (c .before .before .before .before .before .before .put-field .ensures)) (c .before .before .put-byte .ensures))
 
 pub put-last-spec : {M : Type 1} → statement M
 put-last-spec =

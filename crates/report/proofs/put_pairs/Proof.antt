@@ -36,20 +36,25 @@ cast-put-pair c = search needs
 
 put-pair-requires : tie.Need-put-pair-requires Inv-loop μ-loop
 put-pair-requires c κs =
-    pair-room (c .before .before .before .before .loop .inv) (c .before .before .before .loop-test .taken) (told (c .before .before .has .ensures) (c .before .if1 .taken)) (c .before .before .before .before .before .before .pre)
+    pair-room (c .before .before .before .before .loop .inv) (c .before .before .before .loop-test .taken)
+    (told (c .before .before .has .ensures) (c .before .if1 .taken)) (c .before .before .before .before .before .before .pre)
 
 loop-less : tie.Need-loop-less Inv-loop μ-loop
 loop-less c = search needs
 
 loop-again : tie.Need-loop-again Inv-loop μ-loop
 loop-again c =
-    pairs-in (c .before .before .before .before .before .before .before .loop .inv) (c .before .before .before .before .before .before .loop-test .taken) (told (c .before .before .before .before .before .has .ensures) (c .before .before .before .before .if1 .taken)) (c .before .before .put-pair .ensures)
+    pairs-in (c .before .before .before .before .before .before .before .loop .inv)
+    (c .before .before .before .before .before .before .loop-test .taken)
+    (told (c .before .before .before .before .before .has .ensures) (c .before .before .before .before .if1 .taken))
+    (c .before .before .put-pair .ensures)
 
 loop-less-2 : tie.Need-loop-less-2 Inv-loop μ-loop
 loop-less-2 c = search needs
 
 loop-again-2 : tie.Need-loop-again-2 Inv-loop μ-loop
-loop-again-2 c = pairs-out (c .before .before .before .loop .inv) (c .before .before .loop-test .taken) (told (c .before .has .ensures) (c .if1 .left))
+loop-again-2 c = pairs-out (c .before .before .before .loop .inv) (c .before .before .loop-test .taken)
+    (told (c .before .has .ensures) (c .if1 .left))
 
 same-length : tie.Need-same-length Inv-loop μ-loop
 same-length c = c .before .loop .inv .rest .same

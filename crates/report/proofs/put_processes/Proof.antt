@@ -34,18 +34,22 @@ short c =
     let s = c .look .result in
     let g = c .look .ok in
     let most = c .before .before .before .before .pre .1 .most in
-    sight-length (c .before .before .loop .i + 1) s (omega (arith, c .before .loop-test .taken)) (omega (arith, g)) (omega (arith, g)) (λ j. let f : Fits w32 (getD (s .values) j 0) = search needs in f .fits)
+    sight-length (c .before .before .loop .i + 1) s (omega (arith, c .before .loop-test .taken)) (omega (arith, g)) (omega (arith, g))
+    (λ j. let f : Fits w32 (getD (s .values) j 0) = search needs in f .fits)
 
 put-sight-requires : tie.Need-put-sight-requires Inv-loop μ-loop
 put-sight-requires c κs =
-    line-room (c .before .before .before .loop .inv) (c .before .before .loop-test .taken) (c .before .look .result) (c .before .before .before .before .before .pre .0) (short (c .before))
+    line-room (c .before .before .before .loop .inv) (c .before .before .loop-test .taken) (c .before .look .result)
+    (c .before .before .before .before .before .pre .0) (short (c .before))
 
 loop-less : tie.Need-loop-less Inv-loop μ-loop
 loop-less c = search needs
 
 loop-again : tie.Need-loop-again Inv-loop μ-loop
 loop-again c =
-    lines-more (c .before .before .before .before .before .before .loop .inv) (c .before .before .before .before .before .loop-test .taken) (c .before .before .before .before .before .before .before .before .pre .1) (c .before .before .before .before .look .ensures) (short (c .before .before .before .before))
+    lines-more (c .before .before .before .before .before .before .loop .inv) (c .before .before .before .before .before .loop-test .taken)
+    (c .before .before .before .before .before .before .before .before .pre .1) (c .before .before .before .before .look .ensures)
+    (short (c .before .before .before .before))
     (c .before .before .put-sight .ensures)
 
 same-length : tie.Need-same-length Inv-loop μ-loop

@@ -19,11 +19,15 @@ last : (c : tie.After-slice-known) → length (lastLine (c .before .args .r .mac
 last c = last-length (c .before .args .r .machine) (c .before .pre .1 .most)
 
 -- where each part ends
-ran : (c : tie.After-put-run) → (c .put-run .result ≤ c .before .before .before .before .args .at + 69) × (length (c .put-run .last .0) ≡ length (now (c .before .before .before .before .args .out)))
+ran : (c : tie.After-put-run) → (c .put-run .result ≤ c .before .before .before .before .args .at + 69)
+    × (length (c .put-run .last .0) ≡ length (now (c .before .before .before .before .args .out)))
 ran c = (omega (arith, c .put-run .ensures .next, first (c .before .before .before)), stored-length (c .put-run .ensures))
 
-listed : (c : tie.After-put-processes)
-    → (c .put-processes .result ≤ c .before .before .before .before .before .before .before .before .args .at + 69 + 485 * c .before .before .before .before .before .before .before .before .args .r .machine .n) × (length (c .put-processes .last .0) ≡ length (now (c .before .before .before .before .before .before .before .before .args .out)))
+abbrev entry : tie.After-put-processes → tie.Start
+entry c = c .before .before .before .before .before .before .before .before
+
+listed : (c : tie.After-put-processes) → (c .put-processes .result ≤ entry c .args .at + 69 + 485 * entry c .args .r .machine .n)
+    × (length (c .put-processes .last .0) ≡ length (now (entry c .args .out)))
 listed c =
     let d = ran (c .before .before .before .before) in
     (omega (arith, c .put-processes .ensures .0, d .0), stored-length (c .put-processes .ensures .1) ∙ d .1)
@@ -40,8 +44,20 @@ put-processes-requires c κs =
 put-last-requires : tie.Need-put-last-requires
 put-last-requires c κs =
     let a = c .before .before .before .before .before .before .before .before .before .before .before in
-    let d = listed (c .before .before .before) in
-    (record { fits = omega (arith, d .0, d .1, a .pre .0, a .pre .1 .most, last (c .before .before .before .before .before .before .before .before .before .before)) }, a .pre .1 .most)
+    let d = listed (c .before .before .before) in (
+      record {
+        fits = omega (
+          arith,
+          d .0,
+          d .1,
+          a .pre .0,
+          a .pre .1 .most,
+          last
+              (c .before .before .before .before .before .before .before .before .before .before),
+        );
+      },
+      a .pre .1 .most,
+    )
 
 same-length : tie.Need-same-length
 same-length c = search needs
@@ -49,11 +65,13 @@ same-length c = search needs
 returns : tie.Need-returns
 unfolding replayLines
 returns c =
-    let a = c .before .before .before .before .before .before .before .before .before .before .before .before .before .before in
-    let d = listed (c .before .before .before .before .before .before) in
+    let p = c .before .before .before .before .before .before in
+    let r = p .before .before .before .before in
+    let k = r .before .before .before in
+    let d = listed p in
     let e = c .before .before .put-last .ensures in (
-      omega (arith, d .0, a .pre .1 .most, last (c .before .before .before .before .before .before .before .before .before .before .before .before .before), e .next),
-      then (c .before .before .before .before .before .before .before .before .before .before .put-run .ensures) (then (c .before .before .before .before .before .before .put-processes .ensures .1) e),
+      omega (arith, d .0, k .before .pre .1 .most, last k, e .next),
+      then (r .put-run .ensures) (then (p .put-processes .ensures .1) e),
     )
 
 pub put-replay-spec : {M : Type 1} → statement M

@@ -30,7 +30,8 @@ put-replay-requires : tie.Need-put-replay-requires
 put-replay-requires c κs =
     let l : length (now (c .before .before .before .before .args .out)) ≡ 16384 = search needs in (
       omega arith,
-      subst (λ (r : Replayed). Shaped (r .machine)) (sym (c .before .replay .ensures)) (everyFileDemandThree (now (c .before .before .before .before .args .bytes)) 65535 .shape .shape),
+      subst (λ (r : Replayed). Shaped (r .machine)) (sym (c .before .replay .ensures))
+          (everyFileDemandThree (now (c .before .before .before .before .args .bytes)) 65535 .shape .shape),
     )
 
 returns-2 : tie.Need-returns-2
