@@ -48,13 +48,13 @@ IsAnswer r = Is AnswerR r (said r ∷ [])
 
 -- what whoever holds a call's result knows of its fields, and what whoever builds one owes
 pub is-answer : (r : Called) (v : Val) → Is CalledR r (v ∷ []) → IsAnswer (r .answer)
-is-answer r v is = LL.owed Cl.the-type Cl′.the-laws r (v ∷ []) is .0
+is-answer r v is = LL.owed Cl.the-type Cl′.the-laws r (v ∷ []) is .1 .0
 
 pub is-machine : (r : Called) (v : Val) → Is CalledR r (v ∷ []) → IsMachine (r .machine)
-is-machine r v is = LL.owed Cl.the-type Cl′.the-laws r (v ∷ []) is .1 .0
+is-machine r v is = LL.owed Cl.the-type Cl′.the-laws r (v ∷ []) is .0
 
 pub is-both : (r : Called) → IsAnswer (r .answer) → IsMachine (r .machine) → Is CalledR r (both r ∷ [])
-is-both r a m = LL.owes Cl.the-type Cl′.the-laws r (a, (m, tt))
+is-both r a m = LL.owes Cl.the-type Cl′.the-laws r (m, (a, tt))
 
 -- an answer that a call returned, at its machine value written out
 pub is-said : (r : Answer) (v : Val) → Is AnswerR r (v ∷ []) → IsAnswer r

@@ -23,7 +23,7 @@ pub fn in_slot(m: Machine, p: u32) -> Called
     let mut lent = m;
     let answer = slot(&mut lent, p);
     Called {
-        answer,
         machine: lent,
+        answer,
     }
 }

@@ -1,11 +1,11 @@
 -- The calls as the code makes them: what the first tests leave, a step that reads, and a look.
-use mathlib.Core.Path.{_≡_, refl, ap, subst, _∙_}
+use mathlib.Core.Path.{_≡_, refl, sym, ap, subst, _∙_}
 use mathlib.Core.Bool.{Bool, true, false, _&&_, cond, true≢false, false≢true}
 use mathlib.Core.List.{List}
 use Prim.Native.Nat.{ℕ, _+_, _-_, _≤_, _<_}
 use native.Mathlib.Omega.{arith}
 use lib.Dec.{leb, ltb, eqb}
-use borrow.Author.Tests.{leb-true, le-leb, ne-eqb}
+use borrow.Author.Tests.{leb-true, le-leb, eqb-true}
 use Rattle.sets.specs.Sets.{size}
 use Rattle.rules.specs.declared.Stage.{Stage}
 use Rattle.rules.specs.declared.Stage.the-variants.{Absent, Running, Finished, Crashed}
@@ -18,17 +18,16 @@ use Rattle.rules.specs.declared.Standing.{Standing}
 use Rattle.rules.specs.declared.Sight.{Sight}
 use Rattle.rules.specs.State.{nobody, processOf, stageOf, valueOf, rowOf, withStage}
 use Rattle.rules.specs.Shape.{ShapedStage, shaped}
-use Rattle.rules.specs.Calls.{done, refused, tested, reading, write, settle, access, valuesOf, looked, blindly, unseen, lookOf}
+use Rattle.rules.specs.Calls.{done, refused, tested, reading, write, settle, access, stepAt, stepOf, valuesOf, looked, blindly, unseen, lookOf}
 use Rattle.rules.specs.Statements.{Valid}
 use Rattle.rules.proofs.Laws.Small.{and-first, and-second, both, cond-true, cond-false}
 use Rattle.rules.proofs.Laws.Shape.{shaped-record}
-use Rattle.rules.proofs.Laws.Did.{goes-on}
-use Rattle.machine.specs.declared.Next.{Next}
-use Rattle.machine.specs.declared.Next.the-variants.{To, Nowhere}
+use Rattle.rules.proofs.Laws.Did.{goes-on, steps}
+use Rattle.machine.specs.declared.Move.{Move}
 use Rattle.machine.specs.declared.Found.{Found}
 use Rattle.machine.specs.declared.Mover.{Mover}
 use Rattle.machine.specs.Found.{foundOf, moverBy, moverIn, moverOf}
-use Rattle.machine.specs.After.{afterRead}
+use Rattle.machine.specs.Moves.{afterRead, moveIn, moveOf}
 use Rattle.machine.proofs.Values.{no-values}
 
 pub unshaped : (m : Machine) (p : ℕ) → shaped m ≡ false → foundOf m p ≡ Found.Refused NotShaped
@@ -165,28 +164,109 @@ running-low m p x k f v r =
 pub place : {m : Machine} {p : ℕ} → Valid m p → p - 1 < 32
 place {m} {p} h = omega (arith, h .low, h .high, shaped-record m (h .shape) .most)
 
--- what a read comes to, once the code knows where it leads
-abbrev pub arrive : Machine → ℕ → Next → Called
-arrive m p (To s) = done (withStage m p s)
-arrive m p Nowhere = refused NotAlone m
+-- what a step comes to, once the code knows its move
+abbrev pub moved : Machine → ℕ → Move → Called
+moved m p (Move.Write x f v) = done (write m p x f)
+moved m p (Move.Turn s v) = done (withStage m p s)
+moved m p (Move.Refused a) = refused a m
 
-pub access-reads : (m : Machine) (p x k f : ℕ) → (k ≡ 0 → ⊥) → access m p x k f ≡ arrive m p (afterRead (m .n) (rowOf m x) x k f)
+access-moves : (m : Machine) (p x k f v : ℕ) → access m p x k f ≡ moved m p (moveIn m (Mover.Running x k f v))
 unfolding access settle
-access-reads m p x k f ne =
-    cond-false (eqb k 0) (done (write m p x f)) _ (ne-eqb k 0 ne)
-    ∙ go (ltb k (m .n)) (eqb (size (reading (rowOf m x) k f)) x) (eqb x 1)
+access-moves m p x k f v = go (eqb k 0) (ltb k (m .n)) (eqb (size g) x) (eqb x 1)
   where
     g : ℕ
     g = reading (rowOf m x) k f
 
-    go : (a b d : Bool)
-        → cond a (done (withStage m p (Running x (k + 1) g)))
-        (cond b (done (withStage m p (Finished x g))) (cond d (refused NotAlone m) (done (withStage m p (Running (x - 1) 0 0)))))
-        ≡ arrive m p (cond a (To (Running x (k + 1) g)) (cond b (To (Finished x g)) (cond d Nowhere (To (Running (x - 1) 0 0)))))
+    go : (z a b d : Bool)
+        → cond z (done (write m p x f))
+        (cond a (done (withStage m p (Running x (k + 1) g)))
+        (cond b (done (withStage m p (Finished x g))) (cond d (refused NotAlone m) (done (withStage m p (Running (x - 1) 0 0))))))
+        ≡ moved m p (cond z (Move.Write x f v)
+        (cond a (Move.Turn (Running x (k + 1) g) v)
+        (cond b (Move.Turn (Finished x g) v) (cond d (Move.Refused NotAlone) (Move.Turn (Running (x - 1) 0 0) v)))))
+    go true a b d = refl
+    go false true b d = refl
+    go false false true d = refl
+    go false false false true = refl
+    go false false false false = refl
+
+pub step-moves : (m : Machine) (p : ℕ) (q : Move) → moveOf m p ≡ q → stepOf m p ≡ moved m p q
+unfolding stepOf
+step-moves m p q e = go (moverOf m p) refl ∙ ap (moved m p) e
+  where
+    go : (r : Mover) → moverOf m p ≡ r → stepOf m p ≡ moved m p (moveIn m r)
+    go (Mover.Running x k f v) e =
+        let r = runs m p x k f v e in
+        steps m p (r .valid) x k f (r .stage) ∙ access-moves m p x k f v
+    go (Mover.Refused a) e = refused-mover m p a (λ s. stepAt s m p) (record { absent = refl; finished = λ x w. refl; crashed = λ x k f. refl }) e
+
+-- A move, taken apart again: who makes it.
+abbrev isWrite : Move → Bool
+isWrite (Move.Write x f v) = true
+isWrite (Move.Turn s v) = false
+isWrite (Move.Refused a) = false
+
+abbrev isRefused : Move → Bool
+isRefused (Move.Write x f v) = false
+isRefused (Move.Turn s v) = false
+isRefused (Move.Refused a) = true
+
+abbrev moveLevel : Move → ℕ
+moveLevel (Move.Write x f v) = x
+moveLevel (Move.Turn s v) = 0
+moveLevel (Move.Refused a) = 0
+
+abbrev moveFound : Move → ℕ
+moveFound (Move.Write x f v) = f
+moveFound (Move.Turn s v) = 0
+moveFound (Move.Refused a) = 0
+
+abbrev moveValue : Move → ℕ
+moveValue (Move.Write x f v) = v
+moveValue (Move.Turn s v) = v
+moveValue (Move.Refused a) = 0
+
+-- a read writes nothing
+reads-only : (n row x k f v : ℕ) → isWrite (afterRead n row x k f v) ≡ false
+reads-only n row x k f v = go (ltb k n) (eqb (size (reading row k f)) x) (eqb x 1)
+  where
+    go : (a b d : Bool) → isWrite (cond a (Move.Turn (Running x (k + 1) (reading row k f)) v)
+        (cond b (Move.Turn (Finished x (reading row k f)) v) (cond d (Move.Refused NotAlone) (Move.Turn (Running (x - 1) 0 0) v)))) ≡ false
     go true b d = refl
     go false true d = refl
     go false false true = refl
     go false false false = refl
+
+pub write-runs : (m : Machine) (p x f v : ℕ) → moveOf m p ≡ Move.Write x f v → Runs m p x 0 f v
+write-runs m p x f v = go (moverOf m p) refl
+  where
+    by : (y k g w : ℕ) (z : Bool) → eqb k 0 ≡ z → moverOf m p ≡ Mover.Running y k g w
+        → cond z (Move.Write y g w) (afterRead (m .n) (rowOf m y) y k g w) ≡ Move.Write x f v → Runs m p x 0 f v
+    by y k g w true z e q = runs m p x 0 f v (e ∙ (λ i. Mover.Running (ap moveLevel q i) (eqb-true k 0 z i) (ap moveFound q i) (ap moveValue q i)))
+    by y k g w false z e q = absurd (false≢true (sym (reads-only (m .n) (rowOf m y) y k g w) ∙ ap isWrite q))
+
+    go : (r : Mover) → moverOf m p ≡ r → moveIn m r ≡ Move.Write x f v → Runs m p x 0 f v
+    go (Mover.Running y k g w) e q = by y k g w (eqb k 0) refl e q
+    go (Mover.Refused a) e q = absurd (false≢true (ap isWrite q))
+
+pub turn-valid : (m : Machine) (p : ℕ) (s : Stage) (v : ℕ) → moveOf m p ≡ Move.Turn s v → Valid m p × (valueOf m p ≡ v)
+turn-valid m p s v = go (moverOf m p) refl
+  where
+    by : (y k g w : ℕ) (z a b d : Bool) → cond z (Move.Write y g w)
+        (cond a (Move.Turn (Running y (k + 1) (reading (rowOf m y) k g)) w)
+        (cond b (Move.Turn (Finished y (reading (rowOf m y) k g)) w) (cond d (Move.Refused NotAlone) (Move.Turn (Running (y - 1) 0 0) w)))) ≡ Move.Turn s v
+        → w ≡ v
+    by y k g w true a b d q = ap moveValue q
+    by y k g w false true b d q = ap moveValue q
+    by y k g w false false true d q = ap moveValue q
+    by y k g w false false false true q = absurd (true≢false (ap isRefused q))
+    by y k g w false false false false q = ap moveValue q
+
+    go : (r : Mover) → moverOf m p ≡ r → moveIn m r ≡ Move.Turn s v → Valid m p × (valueOf m p ≡ v)
+    go (Mover.Running y k g w) e q =
+        let r = runs m p y k g w e in
+        (r .valid, r .value ∙ by y k g w (eqb k 0) (ltb k (m .n)) (eqb (size (reading (rowOf m y) k g)) y) (eqb y 1) q)
+    go (Mover.Refused a) e q = absurd (true≢false (ap isRefused q))
 
 -- a look
 pub look-shows : (m : Machine) (p : ℕ) → Valid m p → (s : Stage) → stageOf m p ≡ s → lookOf m p ≡ looked m s

@@ -15,8 +15,8 @@ ghost use Prim.Native.Nat.{_+_, _-_, _*_, _≤_};
 ghost use lib.Dec.{leb};
 ghost use Rattle.sets.specs.Sets.{has};
 ghost use Rattle.rules.specs.Shape.{shaped};
-ghost use Rattle.machine.specs.After.{afterRead};
 ghost use Rattle.machine.specs.Found.{foundOf, moverOf, moverAt};
+ghost use Rattle.machine.specs.Moves.{afterRead, moveOf};
 ghost use Rattle.rules.specs.Calls.{newOf, fresh, enterOf, crashOf, stepOf, reading, finishOf, lookOf, blindly, rowValues};
 
 // A machine of n processes, none of which has entered.
@@ -40,19 +40,19 @@ pub fn new(n: u32) -> Called
 {
     if n < 1 {
         return Called {
-            answer: Answer::OutOfRange,
             machine: fresh(1),
+            answer: Answer::OutOfRange,
         };
     }
     if 32 < n {
         return Called {
-            answer: Answer::OutOfRange,
             machine: fresh(1),
+            answer: Answer::OutOfRange,
         };
     }
     Called {
-        answer: Answer::Done,
         machine: fresh(n),
+        answer: Answer::Done,
     }
 }
 
@@ -152,7 +152,7 @@ pub fn enter(mut m: Machine, p: u32, v: u32) -> Called
     let n = m.n;
     let processes = m.processes;
     match find(n, &m.filled, &m.values, processes, p) {
-        Found::Refused(answer) => Called { answer, machine: m },
+        Found::Refused(answer) => Called { machine: m, answer },
         Found::Record(process) => {
             let stage = process.stage;
             match stage {
@@ -166,8 +166,8 @@ pub fn enter(mut m: Machine, p: u32, v: u32) -> Called
                         value: v,
                     };
                     Called {
-                        answer: Answer::Done,
                         machine: m,
+                        answer: Answer::Done,
                     }
                 }
                 Stage::Running {
@@ -175,20 +175,20 @@ pub fn enter(mut m: Machine, p: u32, v: u32) -> Called
                     made: _,
                     found: _,
                 } => Called {
-                    answer: Answer::EnteredBefore,
                     machine: m,
+                    answer: Answer::EnteredBefore,
                 },
                 Stage::Finished { level: _, view: _ } => Called {
-                    answer: Answer::EnteredBefore,
                     machine: m,
+                    answer: Answer::EnteredBefore,
                 },
                 Stage::Crashed {
                     level: _,
                     made: _,
                     found: _,
                 } => Called {
-                    answer: Answer::EnteredBefore,
                     machine: m,
+                    answer: Answer::EnteredBefore,
                 },
             }
         }
@@ -201,7 +201,7 @@ pub fn crash(mut m: Machine, p: u32) -> Called
 {
     let processes = m.processes;
     match find_running(m.n, &m.filled, &m.values, processes, p) {
-        Mover::Refused(answer) => Called { answer, machine: m },
+        Mover::Refused(answer) => Called { machine: m, answer },
         Mover::Running {
             level,
             made,
@@ -213,43 +213,53 @@ pub fn crash(mut m: Machine, p: u32) -> Called
                 value,
             };
             Called {
-                answer: Answer::Done,
                 machine: m,
+                answer: Answer::Done,
             }
         }
     }
 }
 
-// Where a read leads: to a stage, or nowhere.
-pub enum Next {
-    To(Stage),
-    Nowhere,
+// What a step does: it writes, or it goes to a stage by what it reads, or it is refused.
+pub enum Move {
+    Write { level: u32, found: u32, value: u32 },
+    Turn { stage: Stage, value: u32 },
+    Refused(Answer),
 }
 
 // The read of register `made` in a row whose filled registers are `row` (rules 4 and 5).
-fn after_read(n: u32, row: u32, level: u32, made: u32, found: u32) -> Next
+fn after_read(n: u32, row: u32, level: u32, made: u32, found: u32, value: u32) -> Move
     requires { ⌜ 1 ≤ level ⌝ }
-    ensures { λ r. ⌜ r ≡ afterRead n row level made found ⌝ }
+    ensures { λ r. ⌜ r ≡ afterRead n row level made found value ⌝ }
 {
     let seen = read(row, made, found);
     if made < n {
-        return Next::To(Stage::Running {
-            level,
-            made: made + 1,
-            found: seen,
-        });
+        return Move::Turn {
+            stage: Stage::Running {
+                level,
+                made: made + 1,
+                found: seen,
+            },
+            value,
+        };
     }
     if u32::count_ones(seen) == level {
-        return Next::To(Stage::Finished { level, view: seen });
+        return Move::Turn {
+            stage: Stage::Finished { level, view: seen },
+            value,
+        };
     }
     if level == 1 {
-        return Next::Nowhere;
+        return Move::Refused(Answer::NotAlone);
     }
-    Next::To(Stage::Running {
-        level: level - 1,
-        made: 0,
-        found: 0,
-    })
+    Move::Turn {
+        stage: Stage::Running {
+            level: level - 1,
+            made: 0,
+            found: 0,
+        },
+        value,
+    }
 }
 
 // A read finds what stands there at that step (rule 4).
@@ -262,54 +272,70 @@ fn read(row: u32, j: u32, found: u32) -> u32
     found
 }
 
-// One register access of process p (rules 4 and 5); refuses 1, 2, 4, 5, 6, 7.
-pub fn step(mut m: Machine, p: u32) -> Called
-    ensures { λ r. ⌜ r ≡ stepOf m p ⌝ }
+// The move of process p: the first of its n + 1 accesses at a level writes (rule 4).
+fn next_move<'a>(
+    n: u32,
+    filled: &'a [u32; 32],
+    values: &'a [u32; 1024],
+    processes: [Process; 32],
+    p: u32,
+) -> Move
+    ensures { λ r. ⌜ r ≡ moveOf (record { n = n; filled = now (filled .entry); values = now (values .entry); processes = processes }) p ⌝ }
 {
-    let n = m.n;
-    let processes = m.processes;
-    match find_running(n, &m.filled, &m.values, processes, p) {
-        Mover::Refused(answer) => Called { answer, machine: m },
+    match find_running(n, filled, values, processes, p) {
+        Mover::Refused(answer) => Move::Refused(answer),
         Mover::Running {
             level,
             made,
             found,
             value,
         } => {
-            let at = (p - 1) as usize;
-            let row = (level - 1) as usize;
-            let filled = m.filled[row];
             if made == 0 {
-                m.filled[row] = sets::plus(filled, p);
-                m.values[32 * row + at] = value;
-                m.processes[at] = Process {
-                    stage: Stage::Running {
-                        level,
-                        made: 1,
-                        found,
-                    },
+                return Move::Write {
+                    level,
+                    found,
                     value,
                 };
-                return Called {
-                    answer: Answer::Done,
-                    machine: m,
-                };
             }
-            match after_read(n, filled, level, made, found) {
-                Next::To(stage) => {
-                    m.processes[at] = Process { stage, value };
-                    Called {
-                        answer: Answer::Done,
-                        machine: m,
-                    }
-                }
-                Next::Nowhere => Called {
-                    answer: Answer::NotAlone,
-                    machine: m,
-                },
-            }
+            let row = filled[(level - 1) as usize];
+            after_read(n, row, level, made, found, value)
         }
     }
+}
+
+// One register access of process p (rules 4 and 5); refuses 1, 2, 4, 5, 6, 7. One way out, so that the state is copied once.
+pub fn step(mut m: Machine, p: u32) -> Called
+    ensures { λ r. ⌜ r ≡ stepOf m p ⌝ }
+{
+    let processes = m.processes;
+    let mut answer = Answer::Done;
+    match next_move(m.n, &m.filled, &m.values, processes, p) {
+        Move::Refused(a) => {
+            answer = a;
+        }
+        Move::Write {
+            level,
+            found,
+            value,
+        } => {
+            let at = (p - 1) as usize;
+            let row = (level - 1) as usize;
+            m.filled[row] = sets::plus(m.filled[row], p);
+            m.values[32 * row + at] = value;
+            m.processes[at] = Process {
+                stage: Stage::Running {
+                    level,
+                    made: 1,
+                    found,
+                },
+                value,
+            };
+        }
+        Move::Turn { stage, value } => {
+            m.processes[(p - 1) as usize] = Process { stage, value };
+        }
+    }
+    Called { machine: m, answer }
 }
 
 // Process p's own steps until it finishes (rule 8); refuses as its first refused step would, the state as at entry.
@@ -318,7 +344,7 @@ pub fn finish(m: Machine, p: u32) -> Called
 {
     let processes = m.processes;
     match find_running(m.n, &m.filled, &m.values, processes, p) {
-        Mover::Refused(answer) => Called { answer, machine: m },
+        Mover::Refused(answer) => Called { machine: m, answer },
         Mover::Running {
             level,
             made,
@@ -333,13 +359,13 @@ pub fn finish(m: Machine, p: u32) -> Called
                         value,
                     };
                     Called {
-                        answer: Answer::Done,
                         machine: next,
+                        answer: Answer::Done,
                     }
                 }
                 Landing::Stuck => Called {
-                    answer: Answer::NotAlone,
                     machine: m,
+                    answer: Answer::NotAlone,
                 },
             }
         }

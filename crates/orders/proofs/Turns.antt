@@ -9,17 +9,17 @@ use lib.ListN.{length}
 use borrow.Author.Tests.{leb-true, le-leb, lt-leb}
 use Rattle.sets.specs.Sets.{tick}
 use Rattle.rules.specs.declared.Machine.{Machine}
-use Rattle.rules.specs.Calls.{accepted}
+use Rattle.rules.specs.Calls.{accepted, fresh}
 use Rattle.history.specs.Runs.{Call, enters, steps, crashes, answer, from, tally, isStep, stepTaken, notTaken}
 use Rattle.files.specs.declared.FileAnswer.{FileAnswer}
 use Rattle.files.specs.declared.FileAnswer.the-variants.{Whole, BudgetSpent, BodyCut}
 use Rattle.files.specs.declared.Mark.{Mark}
 use Rattle.files.specs.declared.Order.{Order}
 use Rattle.files.specs.Records.{byteAt, wordAt, fits, markOf, markAt, orderBy, orderAt}
-use Rattle.orders.specs.declared.Run.{Run}
+use Rattle.orders.specs.declared.Counts.{Counts}
 use Rattle.orders.specs.declared.Replayed.{Replayed}
 use Rattle.orders.specs.Replays.{Orders, ended, then, onward, ordersFrom, replayed}
-use Rattle.orders.specs.Turns.{begun, took, ends, resumed}
+use Rattle.orders.specs.Turns.{none, took, ends, resumed}
 
 -- The counts of one order more.
 step-count : (s b : Bool) (x y : ℕ) → x + (tick (s && b) + y) ≡ cond b (x + tick s) x + y
@@ -38,21 +38,21 @@ alike : (a : FileAnswer) (p : ℕ) (m : Machine) {t t′ x x′ r r′ : ℕ} �
     (record { answer = a; place = p; taken = t′; accesses = x′; refused = r′; machine = m })
 alike a p m e f g = λ i. record { answer = a; place = p; taken = e i; accesses = f i; refused = g i; machine = m }
 
-pub resumed-took : (r : Run) (c : Call) (o : Orders) → resumed r (then c o) ≡ resumed (took r c) o
+pub resumed-took : (r : Counts) (m : Machine) (c : Call) (o : Orders) → resumed r m (then c o) ≡ resumed (took r m c) (answer m c .machine) o
 unfolding tally from
-resumed-took r c o =
-    let a = answer (r .machine) c in
+resumed-took r m c o =
+    let a = answer m c in
     let one : r .taken + suc (length (o .calls)) ≡ r .taken + 1 + length (o .calls) = omega arith in
     alike (o .answer) (o .place) (from (a .machine) (o .calls)) one
     (step-count (isStep c) (accepted a) (r .accesses) (tally stepTaken (a .machine) (o .calls)))
     (refused-count (accepted a) (r .refused) (tally notTaken (a .machine) (o .calls)))
 
-pub resumed-ended : (r : Run) (a : FileAnswer) (at : ℕ) → ends a at r ≡ resumed r (ended a at)
+pub resumed-ended : (r : Counts) (m : Machine) (a : FileAnswer) (at : ℕ) → ends a at r m ≡ resumed r m (ended a at)
 unfolding tally from
-resumed-ended r a at = alike a at (r .machine) (omega arith) (omega arith) (omega arith)
+resumed-ended r m a at = alike a at m (omega arith) (omega arith) (omega arith)
 
-pub resumed-begun : (n : ℕ) (o : Orders) → resumed (begun n) o ≡ replayed n o
-resumed-begun n o = alike (o .answer) (o .place) (from (begun n .machine) (o .calls)) (omega arith) (omega arith) (omega arith)
+pub resumed-none : (n : ℕ) (o : Orders) → resumed none (fresh n) o ≡ replayed n o
+resumed-none n o = alike (o .answer) (o .place) (from (fresh n) (o .calls)) (omega arith) (omega arith) (omega arith)
 
 -- how many bytes an order has
 abbrev pub width : Order → ℕ
@@ -120,61 +120,61 @@ refusals true x t l = omega arith
 refusals false x t l = omega arith
 
 -- A replay under way at a place: what is left to replay ends as the whole does.
-pub record Going (s : List ℕ) (n budget : ℕ) (r : Run) (at : ℕ) : Type 0 where
+pub record Going (s : List ℕ) (n budget : ℕ) (r : Counts) (m : Machine) (at : ℕ) : Type 0 where
   pub inside : at ≤ length s
   pub taken : r .taken ≤ budget
   pub accesses : r .accesses ≤ r .taken
   pub refused : r .refused ≤ r .taken
-  pub left : resumed r (ordersFrom (budget - r .taken) s at) ≡ replayed n (ordersFrom budget s 3)
+  pub left : resumed r m (ordersFrom (budget - r .taken) s at) ≡ replayed n (ordersFrom budget s 3)
 
-pub going-begun : (s : List ℕ) (n budget : ℕ) → 3 ≤ length s → Going s n budget (begun n) 3
-going-begun s n budget h =
+pub going-none : (s : List ℕ) (n budget : ℕ) → 3 ≤ length s → Going s n budget none (fresh n) 3
+going-none s n budget h =
     let e : budget - 0 ≡ budget = omega arith in
     record {
       inside = h;
       taken = omega arith;
       accesses = omega arith;
       refused = omega arith;
-      left = ap (λ (k : ℕ). resumed (begun n) (ordersFrom k s 3)) e ∙ resumed-begun n (ordersFrom budget s 3);
+      left = ap (λ (k : ℕ). resumed none (fresh n) (ordersFrom k s 3)) e ∙ resumed-none n (ordersFrom budget s 3);
     }
 
-module _ (s : List ℕ) (n budget : ℕ) (r : Run) (at : ℕ) (g : Going s n budget r at) where
-  over : (a : FileAnswer) (p : ℕ) → ordersFrom (budget - r .taken) s at ≡ ended a p → ends a p r ≡ replayed n (ordersFrom budget s 3)
-  over a p e = resumed-ended r a p ∙ ap (resumed r) (sym e) ∙ g .left
+module _ (s : List ℕ) (n budget : ℕ) (r : Counts) (m : Machine) (at : ℕ) (g : Going s n budget r m at) where
+  over : (a : FileAnswer) (p : ℕ) → ordersFrom (budget - r .taken) s at ≡ ended a p → ends a p r m ≡ replayed n (ordersFrom budget s 3)
+  over a p e = resumed-ended r m a p ∙ ap (resumed r m) (sym e) ∙ g .left
 
-  pub over-end : length s ≤ at → ends Whole (length s) r ≡ replayed n (ordersFrom budget s 3)
+  pub over-end : length s ≤ at → ends Whole (length s) r m ≡ replayed n (ordersFrom budget s 3)
   over-end h = over Whole (length s) (from-end (budget - r .taken) s at h)
 
-  pub over-spent : r .taken ≡ budget → at < length s → ends BudgetSpent at r ≡ replayed n (ordersFrom budget s 3)
+  pub over-spent : r .taken ≡ budget → at < length s → ends BudgetSpent at r m ≡ replayed n (ordersFrom budget s 3)
   over-spent e h = over BudgetSpent at (from-spent (budget - r .taken) s at (omega arith) h)
 
   module _ (more : r .taken < budget) where
     turn : (o : Order) → orderAt s at ≡ o → ordersFrom (budget - r .taken) s at ≡ onward s at o (ordersFrom (budget - (r .taken + 1)) s)
     turn o e = from-order (budget - r .taken) (budget - (r .taken + 1)) s at o (omega arith) e
 
-    pub over-none : orderAt s at ≡ Order.End → ends Whole (length s) r ≡ replayed n (ordersFrom budget s 3)
+    pub over-none : orderAt s at ≡ Order.End → ends Whole (length s) r m ≡ replayed n (ordersFrom budget s 3)
     over-none e = over Whole (length s) (turn Order.End e)
 
-    pub over-fault : (a : FileAnswer) → orderAt s at ≡ Order.Fault a → ends a at r ≡ replayed n (ordersFrom budget s 3)
+    pub over-fault : (a : FileAnswer) → orderAt s at ≡ Order.Fault a → ends a at r m ≡ replayed n (ordersFrom budget s 3)
     over-fault a e = over a at (turn (Order.Fault a) e)
 
     one-more : (c : Call) (o : Order) → orderAt s at ≡ o
         → onward s at o (ordersFrom (budget - (r .taken + 1)) s) ≡ then c (ordersFrom (budget - (r .taken + 1)) s (at + width o))
-        → Going s n budget (took r c) (at + width o)
+        → Going s n budget (took r m c) (answer m c .machine) (at + width o)
     one-more c o e f =
         record {
           inside = whole-order s at o (g .inside) e;
           taken = omega arith;
-          accesses = counts (accepted (answer (r .machine) c)) (tick (isStep c)) (r .accesses) (r .taken) (ticked (isStep c)) (g .accesses);
-          refused = refusals (accepted (answer (r .machine) c)) (r .refused) (r .taken) (g .refused);
-          left = sym (resumed-took r c (ordersFrom (budget - (r .taken + 1)) s (at + width o))) ∙ ap (resumed r) (sym (turn o e ∙ f)) ∙ g .left;
+          accesses = counts (accepted (answer m c)) (tick (isStep c)) (r .accesses) (r .taken) (ticked (isStep c)) (g .accesses);
+          refused = refusals (accepted (answer m c)) (r .refused) (r .taken) (g .refused);
+          left = sym (resumed-took r m c (ordersFrom (budget - (r .taken + 1)) s (at + width o))) ∙ ap (resumed r m) (sym (turn o e ∙ f)) ∙ g .left;
         }
 
-    pub going-enter : (p v : ℕ) → orderAt s at ≡ Order.Enter p v → Going s n budget (took r (enters p v)) (at + 7)
+    pub going-enter : (p v : ℕ) → orderAt s at ≡ Order.Enter p v → Going s n budget (took r m (enters p v)) (answer m (enters p v) .machine) (at + 7)
     going-enter p v e = one-more (enters p v) (Order.Enter p v) e refl
 
-    pub going-step : (p : ℕ) → orderAt s at ≡ Order.Step p → Going s n budget (took r (steps p)) (at + 3)
+    pub going-step : (p : ℕ) → orderAt s at ≡ Order.Step p → Going s n budget (took r m (steps p)) (answer m (steps p) .machine) (at + 3)
     going-step p e = one-more (steps p) (Order.Step p) e refl
 
-    pub going-crash : (p : ℕ) → orderAt s at ≡ Order.Crash p → Going s n budget (took r (crashes p)) (at + 3)
+    pub going-crash : (p : ℕ) → orderAt s at ≡ Order.Crash p → Going s n budget (took r m (crashes p)) (answer m (crashes p) .machine) (at + 3)
     going-crash p e = one-more (crashes p) (Order.Crash p) e refl

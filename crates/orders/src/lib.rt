@@ -3,7 +3,6 @@ use files::FileAnswer;
 use files::Header;
 use files::Order;
 use rules::Answer;
-use rules::Called;
 use rules::Machine;
 use rules::Stage;
 ghost use mathlib.Core.Path.{_≡_};
@@ -13,12 +12,11 @@ ghost use lib.Dec.{eqb};
 ghost use lib.ListN.{length};
 ghost use Rattle.sets.specs.Sets.{size};
 ghost use Rattle.rules.specs.Shape.{shaped};
-ghost use Rattle.rules.specs.Calls.{numberOf};
-ghost use Rattle.history.specs.Runs.{enters, steps, crashes};
+ghost use Rattle.rules.specs.Calls.{numberOf, fresh};
 ghost use Rattle.files.specs.Records.{wordBytes};
 ghost use Rattle.files.specs.ViewFile.{joined};
 ghost use Rattle.orders.specs.Replays.{replayed, ordersFrom, replayOf};
-ghost use Rattle.orders.specs.Turns.{begun, counted, took, ends, Room};
+ghost use Rattle.orders.specs.Turns.{none, counted, ends, Room};
 ghost use Rattle.orders.specs.Writes.{writeOf, bufferOf};
 ghost use Rattle.orders.specs.Places.{Lands, recordLength, put, memberBytes, recordBytes, stageBytes, machineBytes};
 
@@ -32,12 +30,11 @@ pub struct Replayed {
     pub machine: Machine,
 }
 
-// A replay under way: the state and the counts after the orders taken.
-pub struct Run {
+// The counts of a replay under way.
+pub struct Counts {
     pub taken: u32,
     pub accesses: u32,
     pub refused: u32,
-    pub machine: Machine,
 }
 
 // What the view writer answers; `writeNumber` of specs/Writes gives document 01's number for each.
@@ -70,116 +67,101 @@ fn accepted(a: Answer) -> bool
 }
 
 // One order more, which the machine has answered; `step` is 1 for a step and 0 otherwise.
-fn counted(run: Run, called: Called, step: u32) -> Run
-    requires { ⌜ Room run × (step ≤ 1) ⌝ }
-    ensures { λ r. ⌜ r ≡ counted run called step ⌝ }
+fn counted(counts: Counts, a: Answer, step: u32) -> Counts
+    requires { ⌜ Room counts × (step ≤ 1) ⌝ }
+    ensures { λ r. ⌜ r ≡ counted counts a step ⌝ }
 {
-    let a = called.answer;
-    let machine = called.machine;
     if accepted(a) {
-        Run {
-            taken: run.taken + 1,
-            accesses: run.accesses + step,
-            refused: run.refused,
-            machine,
+        Counts {
+            taken: counts.taken + 1,
+            accesses: counts.accesses + step,
+            refused: counts.refused,
         }
     } else {
-        Run {
-            taken: run.taken + 1,
-            accesses: run.accesses,
-            refused: run.refused + 1,
-            machine,
+        Counts {
+            taken: counts.taken + 1,
+            accesses: counts.accesses,
+            refused: counts.refused + 1,
         }
     }
 }
 
-// `EN`, `ST` and `CR`. An order that the machine refuses is counted and skipped: the state is as it was.
-fn entered(run: Run, p: u32, v: u32) -> Run
-    requires { ⌜ Room run ⌝ }
-    ensures { λ r. ⌜ r ≡ took run (enters p v) ⌝ }
+// No order taken yet.
+fn none() -> Counts
+    ensures { λ r. ⌜ r ≡ none ⌝ }
 {
-    let m = run.machine;
-    counted(run, machine::enter(m, p, v), 0)
-}
-
-fn stepped(run: Run, p: u32) -> Run
-    requires { ⌜ Room run ⌝ }
-    ensures { λ r. ⌜ r ≡ took run (steps p) ⌝ }
-{
-    let m = run.machine;
-    counted(run, machine::step(m, p), 1)
-}
-
-fn crashed(run: Run, p: u32) -> Run
-    requires { ⌜ Room run ⌝ }
-    ensures { λ r. ⌜ r ≡ took run (crashes p) ⌝ }
-{
-    let m = run.machine;
-    counted(run, machine::crash(m, p), 0)
-}
-
-// A fresh machine of n processes, and no order taken.
-fn begun(n: u32) -> Run
-    requires { ⌜ (1 ≤ n) × (n ≤ 32) ⌝ }
-    ensures { λ r. ⌜ r ≡ begun n ⌝ }
-{
-    let made = machine::new(n);
-    let machine = made.machine;
-    Run {
+    Counts {
         taken: 0,
         accesses: 0,
         refused: 0,
-        machine,
     }
+}
+
+// A machine of n processes, none of which has entered.
+fn fresh(n: u32) -> Machine
+    requires { ⌜ (1 ≤ n) × (n ≤ 32) ⌝ }
+    ensures { λ r. ⌜ r ≡ fresh n ⌝ }
+{
+    let made = machine::new(n);
+    made.machine
 }
 
 // Where the replay ends.
-fn ends(a: FileAnswer, at: usize, last: Run) -> Replayed
-    ensures { λ r. ⌜ r ≡ ends a at last ⌝ }
+fn ends(a: FileAnswer, at: usize, counts: Counts, m: Machine) -> Replayed
+    ensures { λ r. ⌜ r ≡ ends a at counts m ⌝ }
 {
-    let machine = last.machine;
     Replayed {
         answer: a,
         place: at,
-        taken: last.taken,
-        accesses: last.accesses,
-        refused: last.refused,
-        machine,
+        taken: counts.taken,
+        accesses: counts.accesses,
+        refused: counts.refused,
+        machine: m,
     }
 }
 
-// The orders after the header of a file of n processes.
+// The orders after the header of a file of n processes. An order that the machine refuses is counted and skipped: the state is as it was.
 fn replay_orders(s: &[u8], n: u32, budget: u32) -> Replayed
     requires { ⌜ (3 ≤ length (now s)) × (1 ≤ n) × (n ≤ 32) ⌝ }
     ensures { λ r. ⌜ r ≡ replayed n (ordersFrom budget (now (s .entry)) 3) ⌝ }
 {
-    let mut run = begun(n);
+    let mut m = fresh(n);
+    let mut counts = none();
     let mut at: usize = 3;
     loop {
         if s.len() <= at {
-            return ends(FileAnswer::Whole, s.len(), run);
+            return ends(FileAnswer::Whole, s.len(), counts, m);
         }
-        let taken = run.taken;
+        let taken = counts.taken;
         if taken == budget {
-            return ends(FileAnswer::BudgetSpent, at, run);
+            return ends(FileAnswer::BudgetSpent, at, counts, m);
         }
         match files::order_at(s, at) {
             Order::End => {
-                return ends(FileAnswer::Whole, s.len(), run);
+                return ends(FileAnswer::Whole, s.len(), counts, m);
             }
             Order::Fault(a) => {
-                return ends(a, at, run);
+                return ends(a, at, counts, m);
             }
             Order::Enter { process, value } => {
-                run = entered(run, process, value);
+                let called = machine::enter(m, process, value);
+                let a = called.answer;
+                counts = counted(counts, a, 0);
+                m = called.machine;
                 at += 7;
             }
             Order::Step { process } => {
-                run = stepped(run, process);
+                let called = machine::step(m, process);
+                let a = called.answer;
+                counts = counted(counts, a, 1);
+                m = called.machine;
                 at += 3;
             }
             Order::Crash { process } => {
-                run = crashed(run, process);
+                let called = machine::crash(m, process);
+                let a = called.answer;
+                counts = counted(counts, a, 0);
+                m = called.machine;
                 at += 3;
             }
         }
@@ -192,10 +174,7 @@ pub fn replay(s: &[u8], budget: u32) -> Replayed
 {
     match files::header_of(s) {
         Header::Of(n) => replay_orders(s, n, budget),
-        Header::Fault(a) => {
-            let run = begun(1);
-            ends(a, 0, run)
-        }
+        Header::Fault(a) => { ends(a, 0, none(), fresh(1)) }
     }
 }
 

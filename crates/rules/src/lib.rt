@@ -36,8 +36,8 @@ pub enum Answer {
 }
 
 pub struct Called {
-    pub answer: Answer,
     pub machine: Machine,
+    pub answer: Answer,
 }
 
 // A stage by name alone.

@@ -133,7 +133,7 @@ module _ {M : Type 1} (𝓤 : URA M) (H : Heap 𝓤) (A : Atoms 𝓤) (W : Given
   Said r z = (r ≡ stepOf h n .answer) × (z ≡ stepOf h n .machine)
 
   abbrev got : Answer → Machine → Called
-  got r z = record { answer = r; machine = z }
+  got r z = record { machine = z; answer = r }
 
   module _ (C : Calls 𝓤 H) (Λ : Loops 𝓤 H) (fm : FmC 𝓤 H (W .laws) C) (known : Triple 𝓤 (C #executor·slot) (Slot 𝓤 H A at-mem run)) where
     walk : ent 𝓤 (onEntry 𝓤 H A in-slot.signature tt tt a vals) (WpFn 𝓤 H C Λ code.function (mach h ∷ vint w32 n ∷ []) Post)
@@ -166,7 +166,7 @@ module _ {M : Type 1} (𝓤 : URA M) (H : Heap 𝓤) (A : Atoms 𝓤) (W : Given
         use1 W (given (IsMachine (zs .0)) (‵ (fat fullShare T′.mir l₃ 0 (mach (zs .0))))) (lies-out 𝓤 H A W (zs .0) l₃) $ learn ! (λ came.
         -- [_3; true; true; room for _6; …; _5; …; _4; …; _3's end; _2; …; _1; …; room for _0; …; true; the parameters']
         assigns ! (of-opd ! (load ! (from ! (stop !)) (look ! 0 refl))) (from ! (stop !)) (init ! 3 refl (machine-typed 𝓤 H A W (zs .0) came)) $
-        assigns ! (agg ! (and-then ! (load ! (from ! (stop !)) (look ! 7 refl)) (and-then ! (load ! (from ! (stop !)) (look ! 3 refl)) (no-more !))))
+        assigns ! (agg ! (and-then ! (load ! (from ! (stop !)) (look ! 3 refl)) (and-then ! (load ! (from ! (stop !)) (look ! 7 refl)) (no-more !))))
         (from ! (stop !)) (init ! 14 refl (called-typed 𝓤 H A W (got r (zs .0)) _ (is-both (got r (zs .0)) (is-said r v is) came))) $
         returns ! (look ! 14 refl) $
         forget ! 0 refl $ forget ! 3 refl $ forget ! 5 refl $ forget ! 7 refl $ forget ! 10 refl $ forget ! 12 refl $ forget ! 14 refl $

@@ -135,11 +135,11 @@ module _ {M : Type 1} (𝓤 : URA M) (H : Heap 𝓤) (A : Atoms 𝓤) (W : Given
         land ! (from ! (stop !)) (init ! 10 refl (called-typed 𝓤 H A W r v is)) $
         rewrite ! 10 (λ (u : Val). ‵ (fat fullShare Cl′.mir l₄ 0 u)) (ap only (LL.tells Cl.the-type Cl′.the-laws r (v ∷ []) is)) refl $
         -- [what the result owns; and then as before: the machine's cell; what it owns; …]
-        assigns ! (of-opd ! (load ! (from ! (fld ! refl (stop !))) (look-in ! 10 (sub ! 1 refl (whole !))))) (from ! (stop !))
+        assigns ! (of-opd ! (load ! (from ! (fld ! refl (stop !))) (look-in ! 10 (sub ! 0 refl (whole !))))) (from ! (stop !))
         (init ! 8 refl (machine-typed 𝓤 H A W (r .machine) (is-machine r v is))) $
         assigns ! (of-opd ! (load ! (from ! (stop !)) (look ! 8 refl))) (from ! (hop ! (look ! 16 refl) (stop !)))
         (store-raw ! 1 refl (machine-typed 𝓤 H A W (r .machine) (is-machine r v is))) $
-        assigns ! (of-opd ! (load ! (from ! (fld ! refl (stop !))) (look-in ! 10 (sub ! 0 refl (whole !))))) (from ! (stop !))
+        assigns ! (of-opd ! (load ! (from ! (fld ! refl (stop !))) (look-in ! 10 (sub ! 1 refl (whole !))))) (from ! (stop !))
         (init ! 18 refl (answer-typed 𝓤 H A W (r .answer) _ (is-answer r v is))) $
         -- the borrow is closed at what was stored
         drop ! $ move ! (1 ∷ []) $ drop ! $ owned ! MachineR (Is MachineR) (machine-makes 𝓤 H A) (r .machine) _ (is-machine r v is) $

@@ -9,8 +9,8 @@ use Rattle.machine.proofs.after_read.Tie as tie
 read-requires : tie.Need-read-requires
 read-requires c κs = search needs
 
-add-t8 : tie.Need-add-t8
-add-t8 c = search needs
+add-t9 : tie.Need-add-t9
+add-t9 c = search needs
 
 returns : tie.Need-returns
 returns c = rw (sym (c .before .read .ensures), lt-ltb _ _ (c .if1 .taken))
@@ -28,8 +28,8 @@ returns-3 c =
       eq-eqb _ _ (c .if3 .taken),
     )
 
-sub-t10 : tie.Need-sub-t10
-sub-t10 c = search needs
+sub-t11 : tie.Need-sub-t11
+sub-t11 c = search needs
 
 returns-4 : tie.Need-returns-4
 returns-4 c =
@@ -42,4 +42,4 @@ returns-4 c =
 
 pub after-read-spec : {M : Type 1} → statement M
 after-read-spec =
-    tie.close (tie.spec read-requires add-t8 returns returns-2 returns-3 sub-t10 returns-4)
+    tie.close (tie.spec read-requires add-t9 returns returns-2 returns-3 sub-t11 returns-4)

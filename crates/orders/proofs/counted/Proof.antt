@@ -7,17 +7,17 @@ use Rattle.orders.proofs.counted.Tie as tie
 accepted-requires : tie.Need-accepted-requires
 accepted-requires c κs = search needs
 
+add-t6 : tie.Need-add-t6
+add-t6 c = search needs
+
+add-t7 : tie.Need-add-t7
+add-t7 c = search needs
+
 add-t8 : tie.Need-add-t8
 add-t8 c = search needs
 
 add-t9 : tie.Need-add-t9
 add-t9 c = search needs
-
-add-t10 : tie.Need-add-t10
-add-t10 c = search needs
-
-add-t11 : tie.Need-add-t11
-add-t11 c = search needs
 
 returns : tie.Need-returns
 returns c = simp (told (c .before .before .before .accepted .ensures) (c .before .before .if1 .taken))
@@ -27,4 +27,4 @@ returns-2 c = simp (told (c .before .before .before .accepted .ensures) (c .befo
 
 pub counted-spec : {M : Type 1} → statement M
 counted-spec =
-    tie.close (tie.spec accepted-requires add-t8 add-t9 add-t10 add-t11 returns returns-2)
+    tie.close (tie.spec accepted-requires add-t6 add-t7 add-t8 add-t9 returns returns-2)

@@ -1,5 +1,5 @@
 -- `orders::replay` meets its contract: each arm is the definition at the header that was found.
-use mathlib.Core.Path.{sym, ap, _∙_}
+use mathlib.Core.Path.{sym, ap, ap₂, _∙_}
 use denote.Ref.{now}
 use borrow.Author.Needs.{needs}
 use Rattle.files.proofs.Reading.{opened}
@@ -24,8 +24,11 @@ replay-orders-requires c κs =
 enum-known-a : tie.Need-enum-known-a
 enum-known-a c = search needs
 
-begun-requires : tie.Need-begun-requires
-begun-requires c κs = search needs
+none-requires : tie.Need-none-requires
+none-requires c κs = search needs
+
+fresh-requires : tie.Need-fresh-requires
+fresh-requires c κs = search needs
 
 ends-requires : tie.Need-ends-requires
 ends-requires c κs = search needs
@@ -40,11 +43,11 @@ returns c =
 returns-2 : tie.Need-returns-2
 unfolding replayOf
 returns-2 c =
-    let h = c .before .before .before .before .before in
+    let h = c .before .before .before .before .before .before in
     let a = h .before .before .args in
-    let g = c .before .before .before .a .given in
+    let g = c .before .before .before .before .a .given in
     c .ends .ensures
-    ∙ ap (ends (g .0 .0) 0) (c .before .begun .ensures)
+    ∙ ap₂ (ends (g .0 .0) 0) (c .before .before .none .ensures) (c .before .fresh .ensures)
     ∙ ap (replayBy (now (a .s)) (a .budget)) (sym (g .1) ∙ h .header-of .ensures)
 
 pub replay-spec : {M : Type 1} → statement M
@@ -55,7 +58,8 @@ replay-spec =
     enum-known-n
     replay-orders-requires
     enum-known-a
-    begun-requires
+    none-requires
+    fresh-requires
     ends-requires
     returns
     returns-2)

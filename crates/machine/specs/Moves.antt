@@ -1,0 +1,28 @@
+-- What a step does, as the code hands it over: its move, decided before the machine is changed.
+use Prim.Native.Nat.{ℕ, _+_, _-_}
+use mathlib.Core.Bool.{cond}
+use lib.Dec.{ltb, eqb}
+use Rattle.sets.specs.Sets.{size}
+use Rattle.rules.specs.declared.Stage.the-variants.{Running, Finished}
+use Rattle.rules.specs.declared.Machine.{Machine}
+use Rattle.rules.specs.declared.Answer.the-variants.{NotAlone}
+use Rattle.rules.specs.State.{rowOf}
+use Rattle.rules.specs.Calls.{reading}
+use Rattle.machine.specs.declared.Move.{Move}
+use Rattle.machine.specs.declared.Mover.{Mover}
+use Rattle.machine.specs.Found.{moverOf}
+
+-- rules 4 and 5, the read of register k at level x of a row, over the set found
+abbrev pub afterRead : ℕ → ℕ → ℕ → ℕ → ℕ → ℕ → Move
+afterRead n row x k f v =
+    cond (ltb k n) (Move.Turn (Running x (k + 1) (reading row k f)) v)
+    (cond (eqb (size (reading row k f)) x) (Move.Turn (Finished x (reading row k f)) v)
+    (cond (eqb x 1) (Move.Refused NotAlone) (Move.Turn (Running (x - 1) 0 0) v)))
+
+-- rule 4: the first access at a level writes
+abbrev pub moveIn : Machine → Mover → Move
+moveIn m (Mover.Running x k f v) = cond (eqb k 0) (Move.Write x f v) (afterRead (m .n) (rowOf m x) x k f v)
+moveIn m (Mover.Refused a) = Move.Refused a
+
+abbrev pub moveOf : Machine → ℕ → Move
+moveOf m p = moveIn m (moverOf m p)
