@@ -1,5 +1,5 @@
 -- What belongs to no one function.
-pub mod Tests
+pub mod Looks
 pub mod Typed
 pub mod Values
 pub mod Descent

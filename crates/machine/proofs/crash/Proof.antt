@@ -5,7 +5,7 @@ use Rattle.rules.specs.declared.Stage.the-variants.{Crashed}
 use Rattle.rules.specs.State.{withProcess}
 use Rattle.rules.specs.Calls.{done, crashAt, crashOf}
 use Rattle.rules.proofs.Laws.Did.{crashes}
-use Rattle.machine.proofs.Tests.{refused-mover, Runs, runs, place}
+use Rattle.moves.proofs.Laws.{refused-mover, Runs, runs, place}
 use borrow.Author.Needs.{needs}
 use Rattle.machine.proofs.crash.Statement.{statement}
 use Rattle.machine.proofs.crash.Tie as tie

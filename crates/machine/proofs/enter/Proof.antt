@@ -6,7 +6,7 @@ use Rattle.rules.specs.State.{processOf, stageOf}
 use Rattle.rules.specs.Calls.{enterAt, enterOf}
 use Rattle.rules.specs.Statements.{Valid}
 use Rattle.rules.proofs.Laws.Did.{goes-on}
-use Rattle.machine.proofs.Tests.{refused-call, found-valid, place}
+use Rattle.moves.proofs.Laws.{refused-call, found-valid, place}
 use borrow.Author.Needs.{needs}
 use Rattle.machine.proofs.enter.Statement.{statement}
 use Rattle.machine.proofs.enter.Tie as tie

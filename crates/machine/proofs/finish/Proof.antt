@@ -14,7 +14,7 @@ use Rattle.rules.specs.Alone.{landing, filledDown, topRow, landed, aloneAt, alo
 use Rattle.rules.proofs.Laws.Did.{goes-on}
 use Rattle.rules.proofs.Laws.Alone.{alone-is}
 use Rattle.machine.proofs.Typed.{machine-held}
-use Rattle.machine.proofs.Tests.{refused-mover, Runs, runs, running-low, place, at-most-32}
+use Rattle.moves.proofs.Laws.{refused-mover, Runs, runs, running-low, place, at-most-32}
 use Rattle.machine.proofs.Descent.{Reachable, ends-within, top-range}
 use borrow.Author.Needs.{needs}
 use Rattle.machine.proofs.finish.Statement.{statement}

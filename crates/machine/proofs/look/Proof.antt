@@ -12,7 +12,8 @@ use Rattle.rules.specs.declared.Answer.the-variants.{Done}
 use Rattle.rules.specs.State.{stageOf}
 use Rattle.rules.specs.Calls.{blindly}
 use Rattle.rules.specs.Statements.{Valid}
-use Rattle.machine.proofs.Tests.{found-valid, standing, at-most-32, refused-look, look-shows, looked-blindly}
+use Rattle.moves.proofs.Laws.{found-valid, standing, at-most-32}
+use Rattle.machine.proofs.Looks.{refused-look, look-shows, looked-blindly}
 use borrow.Author.Needs.{needs}
 use Rattle.machine.proofs.look.Statement.{statement}
 use Rattle.machine.proofs.look.Tie as tie

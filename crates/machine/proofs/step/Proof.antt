@@ -9,9 +9,9 @@ use Rattle.rules.specs.declared.Called.{Called}
 use Rattle.rules.specs.State.{valueOf, withProcess}
 use Rattle.rules.specs.Calls.{done}
 use Rattle.rules.specs.Statements.{Valid}
-use Rattle.machine.specs.declared.Move.{Move}
-use Rattle.machine.specs.Moves.{moveOf}
-use Rattle.machine.proofs.Tests.{Runs, running-low, place, step-moves, write-runs, turn-valid}
+use Rattle.moves.specs.declared.Move.{Move}
+use Rattle.moves.specs.Moves.{moveOf}
+use Rattle.moves.proofs.Laws.{Runs, running-low, place, step-moves, write-runs, turn-valid}
 use borrow.Author.Needs.{needs}
 use Rattle.machine.proofs.step.Statement.{statement}
 use Rattle.machine.proofs.step.Tie as tie

@@ -1,7 +1,7 @@
 -- `in_range` meets its contract by its tests.
 use borrow.Author.Tests.{le-leb, lt-leb}
-use Rattle.machine.proofs.in_range.Statement.{statement}
-use Rattle.machine.proofs.in_range.Tie as tie
+use Rattle.moves.proofs.in_range.Statement.{statement}
+use Rattle.moves.proofs.in_range.Tie as tie
 
 returns : tie.Need-returns
 returns c = rw (lt-leb _ _ (c .if1 .taken))

@@ -1,9 +1,9 @@
 -- `find_running` meets its contract: each arm is given what was found.
 use mathlib.Core.Path.{sym, ap, _∙_}
-use Rattle.machine.specs.Found.{moverIn}
+use Rattle.moves.specs.Found.{moverIn}
 use borrow.Author.Needs.{needs}
-use Rattle.machine.proofs.find_running.Statement.{statement}
-use Rattle.machine.proofs.find_running.Tie as tie
+use Rattle.moves.proofs.find_running.Statement.{statement}
+use Rattle.moves.proofs.find_running.Tie as tie
 
 find-requires : tie.Need-find-requires
 find-requires c κs = search needs

@@ -3,10 +3,10 @@ use mathlib.Core.Path.{sym, _∙_}
 use borrow.Author.Tests.{not-true, not-false}
 use denote.Ref.{now}
 use Rattle.rules.specs.Statements.{Valid}
-use Rattle.machine.proofs.Tests.{unshaped, no-process, passed, found, place}
+use Rattle.moves.proofs.Laws.{unshaped, no-process, passed, found, place}
 use borrow.Author.Needs.{needs}
-use Rattle.machine.proofs.find.Statement.{statement}
-use Rattle.machine.proofs.find.Tie as tie
+use Rattle.moves.proofs.find.Statement.{statement}
+use Rattle.moves.proofs.find.Tie as tie
 
 shaped-requires : tie.Need-shaped-requires
 shaped-requires c κs = search needs

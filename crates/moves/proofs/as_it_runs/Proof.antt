@@ -1,10 +1,10 @@
 -- `as_it_runs` meets its contract: each arm is given that the stage is its constructor.
 use mathlib.Core.Path.{sym, ap}
 use Rattle.rules.specs.declared.Stage.{Stage}
-use Rattle.machine.specs.Found.{moverBy}
+use Rattle.moves.specs.Found.{moverBy}
 use borrow.Author.Needs.{needs}
-use Rattle.machine.proofs.as_it_runs.Statement.{statement}
-use Rattle.machine.proofs.as_it_runs.Tie as tie
+use Rattle.moves.proofs.as_it_runs.Statement.{statement}
+use Rattle.moves.proofs.as_it_runs.Tie as tie
 
 enum-told : tie.Need-enum-told
 enum-told c = search needs

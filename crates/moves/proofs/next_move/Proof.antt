@@ -6,13 +6,13 @@ use denote.Ref.{now}
 use borrow.Author.Tests.{eq-eqb, ne-eqb}
 use Rattle.rules.specs.declared.Machine.{Machine}
 use Rattle.rules.proofs.Laws.Small.{cond-true, cond-false}
-use Rattle.machine.specs.declared.Mover.{Mover}
-use Rattle.machine.specs.Found.{moverOf}
-use Rattle.machine.specs.Moves.{moveIn, moveOf}
-use Rattle.machine.proofs.Tests.{runs, running-low}
+use Rattle.moves.specs.declared.Mover.{Mover}
+use Rattle.moves.specs.Found.{moverOf}
+use Rattle.moves.specs.Moves.{moveIn, moveOf}
+use Rattle.moves.proofs.Laws.{runs, running-low}
 use borrow.Author.Needs.{needs}
-use Rattle.machine.proofs.next_move.Statement.{statement}
-use Rattle.machine.proofs.next_move.Tie as tie
+use Rattle.moves.proofs.next_move.Statement.{statement}
+use Rattle.moves.proofs.next_move.Tie as tie
 
 find-running-requires : tie.Need-find-running-requires
 find-running-requires c κs = search needs

@@ -9,8 +9,8 @@ use Rattle.rules.specs.declared.Machine.{Machine}
 use Rattle.rules.specs.declared.Answer.the-variants.{NotShaped, NoProcess, NeverEntered, HasCrashed, HasFinished}
 use Rattle.rules.specs.State.{processOf}
 use Rattle.rules.specs.Shape.{shaped}
-use Rattle.machine.specs.declared.Found.{Found}
-use Rattle.machine.specs.declared.Mover.{Mover}
+use Rattle.moves.specs.declared.Found.{Found}
+use Rattle.moves.specs.declared.Mover.{Mover}
 
 -- 1 and 2
 abbrev pub foundOf : Machine → ℕ → Found

@@ -2,8 +2,8 @@
 use mathlib.Core.Path.{sym, _∙_}
 use Rattle.rules.specs.Calls.{reading}
 use borrow.Author.Needs.{needs}
-use Rattle.machine.proofs.read.Statement.{statement}
-use Rattle.machine.proofs.read.Tie as tie
+use Rattle.moves.proofs.read.Statement.{statement}
+use Rattle.moves.proofs.read.Tie as tie
 
 has-requires : tie.Need-has-requires
 has-requires c κs = search needs

@@ -8,9 +8,9 @@ use Rattle.rules.specs.declared.Machine.{Machine}
 use Rattle.rules.specs.declared.Answer.the-variants.{NotAlone}
 use Rattle.rules.specs.State.{rowOf}
 use Rattle.rules.specs.Calls.{reading}
-use Rattle.machine.specs.declared.Move.{Move}
-use Rattle.machine.specs.declared.Mover.{Mover}
-use Rattle.machine.specs.Found.{moverOf}
+use Rattle.moves.specs.declared.Move.{Move}
+use Rattle.moves.specs.declared.Mover.{Mover}
+use Rattle.moves.specs.Found.{moverOf}
 
 -- rules 4 and 5, the read of register k at level x of a row, over the set found
 abbrev pub afterRead : ℕ → ℕ → ℕ → ℕ → ℕ → ℕ → Move

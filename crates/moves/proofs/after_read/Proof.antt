@@ -3,8 +3,8 @@ use mathlib.Core.Path.{sym, _∙_}
 use borrow.Author.Tests.{lt-ltb, le-ltb, eq-eqb, ne-eqb}
 use Rattle.sets.proofs.Laws.{size-ones}
 use borrow.Author.Needs.{needs}
-use Rattle.machine.proofs.after_read.Statement.{statement}
-use Rattle.machine.proofs.after_read.Tie as tie
+use Rattle.moves.proofs.after_read.Statement.{statement}
+use Rattle.moves.proofs.after_read.Tie as tie
 
 read-requires : tie.Need-read-requires
 read-requires c κs = search needs

@@ -1,11 +1,10 @@
--- The calls as the code makes them: what the first tests leave, a step that reads, and a look.
+-- The calls as the code makes them: what the first tests leave, and what a step comes to by its move.
 use mathlib.Core.Path.{_≡_, refl, sym, ap, subst, _∙_}
 use mathlib.Core.Bool.{Bool, true, false, _&&_, cond, true≢false, false≢true}
-use mathlib.Core.List.{List}
 use Prim.Native.Nat.{ℕ, _+_, _-_, _≤_, _<_}
 use native.Mathlib.Omega.{arith}
 use lib.Dec.{leb, ltb, eqb}
-use borrow.Author.Tests.{leb-true, le-leb, eqb-true}
+use borrow.Author.Tests.{leb-true, eqb-true}
 use Rattle.sets.specs.Sets.{size}
 use Rattle.rules.specs.declared.Stage.{Stage}
 use Rattle.rules.specs.declared.Stage.the-variants.{Absent, Running, Finished, Crashed}
@@ -14,21 +13,18 @@ use Rattle.rules.specs.declared.Machine.{Machine}
 use Rattle.rules.specs.declared.Answer.{Answer}
 use Rattle.rules.specs.declared.Answer.the-variants.{Done, NotShaped, NoProcess, NeverEntered, HasCrashed, HasFinished, NotAlone}
 use Rattle.rules.specs.declared.Called.{Called}
-use Rattle.rules.specs.declared.Standing.{Standing}
-use Rattle.rules.specs.declared.Sight.{Sight}
 use Rattle.rules.specs.State.{nobody, processOf, stageOf, valueOf, rowOf, withStage}
 use Rattle.rules.specs.Shape.{ShapedStage, shaped}
-use Rattle.rules.specs.Calls.{done, refused, tested, reading, write, settle, access, stepAt, stepOf, valuesOf, looked, blindly, unseen, lookOf}
+use Rattle.rules.specs.Calls.{done, refused, tested, reading, write, settle, access, stepAt, stepOf}
 use Rattle.rules.specs.Statements.{Valid}
-use Rattle.rules.proofs.Laws.Small.{and-first, and-second, both, cond-true, cond-false}
+use Rattle.rules.proofs.Laws.Small.{and-first, and-second, cond-true, cond-false}
 use Rattle.rules.proofs.Laws.Shape.{shaped-record}
 use Rattle.rules.proofs.Laws.Did.{goes-on, steps}
-use Rattle.machine.specs.declared.Move.{Move}
-use Rattle.machine.specs.declared.Found.{Found}
-use Rattle.machine.specs.declared.Mover.{Mover}
-use Rattle.machine.specs.Found.{foundOf, moverBy, moverIn, moverOf}
-use Rattle.machine.specs.Moves.{afterRead, moveIn, moveOf}
-use Rattle.machine.proofs.Values.{no-values}
+use Rattle.moves.specs.declared.Move.{Move}
+use Rattle.moves.specs.declared.Found.{Found}
+use Rattle.moves.specs.declared.Mover.{Mover}
+use Rattle.moves.specs.Found.{foundOf, moverBy, moverIn, moverOf}
+use Rattle.moves.specs.Moves.{afterRead, moveIn, moveOf}
 
 pub unshaped : (m : Machine) (p : ℕ) → shaped m ≡ false → foundOf m p ≡ Found.Refused NotShaped
 unshaped m p e = cond-false (shaped m) _ (Found.Refused NotShaped) e
@@ -44,7 +40,7 @@ pub found : (m : Machine) (p : ℕ) → shaped m ≡ true → (leb 1 p && leb p 
 found m p e f = cond-true (shaped m) _ (Found.Refused NotShaped) e ∙ cond-true (leb 1 p && leb p (m .n)) _ (Found.Refused NoProcess) f
 
 -- What is found, taken apart again.
-abbrev answerIn : Found → Answer
+abbrev pub answerIn : Found → Answer
 answerIn (Found.Record P) = Done
 answerIn (Found.Refused a) = a
 
@@ -52,7 +48,7 @@ abbrev processIn : Found → Process
 processIn (Found.Record P) = P
 processIn (Found.Refused a) = nobody
 
-abbrev isRecord : Found → Bool
+abbrev pub isRecord : Found → Bool
 isRecord (Found.Record P) = true
 isRecord (Found.Refused a) = false
 
@@ -64,16 +60,6 @@ refused-call m p a c = go (shaped m) (leb 1 p && leb p (m .n))
     go true true e = absurd (true≢false (ap isRecord e))
     go true false e = ap (λ (f : Found). refused (answerIn f) m) e
     go false r e = ap (λ (f : Found). refused (answerIn f) m) e
-
-pub refused-look : (m : Machine) (p : ℕ) (a : Answer) → foundOf m p ≡ Found.Refused a → lookOf m p ≡ unseen a
-unfolding lookOf
-refused-look m p a = go (shaped m) (leb 1 p && leb p (m .n))
-  where
-    go : (s r : Bool) → cond s (cond r (Found.Record (processOf m p)) (Found.Refused NoProcess)) (Found.Refused NotShaped) ≡ Found.Refused a
-        → cond s (cond r (looked m (stageOf m p)) (unseen NoProcess)) (unseen NotShaped) ≡ unseen a
-    go true true e = absurd (true≢false (ap isRecord e))
-    go true false e = ap (λ (f : Found). unseen (answerIn f)) e
-    go false r e = ap (λ (f : Found). unseen (answerIn f)) e
 
 pub found-valid : (m : Machine) (p : ℕ) (P : Process) → foundOf m p ≡ Found.Record P → Valid m p × (processOf m p ≡ P)
 found-valid m p P = go (shaped m) (leb 1 p && leb p (m .n)) refl refl
@@ -267,17 +253,3 @@ turn-valid m p s v = go (moverOf m p) refl
         let r = runs m p y k g w e in
         (r .valid, r .value ∙ by y k g w (eqb k 0) (ltb k (m .n)) (eqb (size (reading (rowOf m y) k g)) y) (eqb y 1) q)
     go (Mover.Refused a) e q = absurd (true≢false (ap isRefused q))
-
--- a look
-pub look-shows : (m : Machine) (p : ℕ) → Valid m p → (s : Stage) → stageOf m p ≡ s → lookOf m p ≡ looked m s
-unfolding lookOf
-look-shows m p h s e =
-    cond-true (shaped m) _ (unseen NotShaped) (h .shape)
-    ∙ cond-true (leb 1 p && leb p (m .n)) _ (unseen NoProcess) (both (leb 1 p) (leb p (m .n)) (le-leb 1 p (h .low)) (le-leb p (m .n) (h .high)))
-    ∙ ap (looked m) e
-
--- a look without a view shows no values
-pub looked-blindly : (m : Machine) (s : Standing) (x k : ℕ)
-    → blindly Done s x k ≡ record { answer = Done; standing = s; level = x; accesses = k; view = 0; values = valuesOf m x 0 }
-looked-blindly m s x k =
-    ap {B = Sight} (λ (v : List ℕ). record { answer = Done; standing = s; level = x; accesses = k; view = 0; values = v }) (no-values (m .values) x)
