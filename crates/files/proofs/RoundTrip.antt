@@ -251,9 +251,9 @@ back v r (suc d) i z s pre u turns t e h =
     back v r d p next s pre u turns (upto-skip v u i high r o t) whole h)
     (either (owns v p))
 
-pub readsBack : ReadsBack
+pub reads-back : ReadsBack
 unfolding readOf fileOf
-readsBack v r =
+reads-back v r =
     let pre : List ℕ = 77 ∷ 78 ∷ v .n ∷ [] in
     let s : List ℕ = 77 ∷ 78 ∷ v .n ∷ joined 1 32 (bytesOf v) in
     ap (readBy s) (header-read (v .n) (joined 1 32 (bytesOf v)) (r .some) (r .most))
@@ -297,9 +297,9 @@ bytes-view v i h =
     (bytes-append (wordBytes (seenBy v i)) values (bytes-word (seenBy v i))
     (bytes-joined 1 32 (valueBytes v i) (λ j l m. bytes-if (has (seenBy v i) j) (wordBytes (valueBy v i j)) (λ e. bytes-word (valueBy v i j)))))))
 
-pub writesBytes : WritesBytes
+pub writes-bytes : WritesBytes
 unfolding fileOf
-writesBytes v r =
+writes-bytes v r =
     let views : List ℕ = joined 1 32 (bytesOf v) in
     bytes-one 77 (78 ∷ v .n ∷ views) (omega arith)
     (bytes-one 78 (v .n ∷ views) (omega arith)

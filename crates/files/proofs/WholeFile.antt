@@ -96,8 +96,8 @@ read-whole s v e (header a h q) = absurd (never-whole s a 0 v (header-refused s 
 read-whole s v e (records (whole u r q)) = subst (Reached s (length s)) (ap (λ (x : ViewsRead). x .views) (sym q ∙ e)) r
 read-whole s v e (records (refused a at u r l t q)) = absurd (never-whole s a at v (record-refused s at (u .n) (u .own) a l t) q e)
 
-pub readExactly : ReadExactly
-readExactly s v = (
+pub read-exactly : ReadExactly
+read-exactly s v = (
   λ e. read-whole s v e (file-ends s),
   λ r. let c = comes r in
       c .same ∙ read-end (c .turns) s (length s) v (c .inside) (c .enough) (at-end s (length s) (v .n) (v .own) (omega arith)),
@@ -148,9 +148,9 @@ refused-at s k at n =
     (λ p. subst (Answers s k) (sym (p .0)) (header-answers s k n (headerOf s) refl (header-number s ∙ p .1)))
     (λ p. record-answers s k at (p .0) n (p .1) (testedAt s at (p .0 .n) (p .0 .own)) refl (record-number s at (p .0 .n) (p .0 .own) (p .2) ∙ p .3))
 
-pub refusedExactly : RefusedExactly
+pub refused-exactly : RefusedExactly
 unfolding Answers
-refusedExactly s k at n = (λ p. refusal s k at n (p .0) (p .1) (file-ends s), refused-at s k at n)
+refused-exactly s k at n = (λ p. refusal s k at n (p .0) (p .1) (file-ends s), refused-at s k at n)
 
 -- What is read is in range, record by record.
 pub reached-in-range : {s : List ℕ} {at : ℕ} {v : Views} → Bytes s → Reached s at v → InRange v
@@ -174,18 +174,18 @@ to-the-end s t (records (whole v r q)) = record { views = v; reached = r; same =
 to-the-end s t (records (refused a at v r l e q)) =
     absurd (record-refused s at (v .n) (v .own) a l e (sym (ap (λ (x : ViewsRead). numberOf (x .answer)) q) ∙ zero-if (readOf s .answer) t))
 
-pub readInRange : ReadInRange
-readInRange s b t =
+pub read-in-range : ReadInRange
+read-in-range s b t =
     let e = to-the-end s t (file-ends s) in
     subst InRange (sym (ap (λ (x : ViewsRead). x .views) (e .same))) (reached-in-range b (e .reached))
 
-pub readPlace : ReadPlace
-readPlace s t = ap (λ (x : ViewsRead). x .place) (to-the-end s t (file-ends s) .same)
+pub read-place : ReadPlace
+read-place s t = ap (λ (x : ViewsRead). x .place) (to-the-end s t (file-ends s) .same)
 
 none-if : (s : List ℕ) → accepted (readOf s .answer) ≡ false → FileEnds s → readOf s .views ≡ noneOf 0
 none-if s t (header a h q) = ap (λ (x : ViewsRead). x .views) q
 none-if s t (records (whole v r q)) = absurd (true≢false (sym (ap (λ (x : ViewsRead). accepted (x .answer)) q) ∙ t))
 none-if s t (records (refused a at v r l e q)) = ap (λ (x : ViewsRead). x .views) q
 
-pub refusedGivesNone : RefusedGivesNone
-refusedGivesNone s t = none-if s t (file-ends s)
+pub refused-gives-none : RefusedGivesNone
+refused-gives-none s t = none-if s t (file-ends s)

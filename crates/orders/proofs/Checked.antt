@@ -33,16 +33,16 @@ use Rattle.views.specs.declared.Finding.{Finding}
 use Rattle.views.specs.Findings.{found, checkOf}
 use Rattle.views.specs.Verdict.{judged}
 use Rattle.views.specs.Properties as properties
-use Rattle.views.proofs.Accepts.{acceptsExactly}
-use Rattle.views.proofs.FirstBreak.{yesIsNoFinding}
-use Rattle.views.proofs.Verdicts.{readThenChecked}
+use Rattle.views.proofs.Accepts.{accepts-exactly}
+use Rattle.views.proofs.FirstBreak.{yes-is-no-finding}
+use Rattle.views.proofs.Verdicts.{read-then-checked}
 use Rattle.orders.specs.Replays.{Orders, ended, onward, ordersFrom, replayOf, callsBy, callsOf, processesOf}
 use Rattle.orders.specs.OrderFile.{WordCalls}
 use Rattle.orders.specs.Writes.{viewsOf, bytesOf}
 use Rattle.orders.specs.Promises.{Words, Accepted, EveryRunAccepted, EveryFileAccepted, DemandThree}
 use Rattle.orders.proofs.Views.{seen}
-use Rattle.orders.proofs.RoundTrip.{view-found, owner-known, owner-finished, owner-below, named-below, value-named, writtenReadsBack}
-use Rattle.orders.proofs.Promises.{few-processes, demand-three, everyFileCounted, everyFileDemandThree}
+use Rattle.orders.proofs.RoundTrip.{view-found, owner-known, owner-finished, owner-below, named-below, value-named, written-reads-back}
+use Rattle.orders.proofs.Promises.{few-processes, demand-three, every-file-counted, every-file-demand-three}
 
 -- The views of a machine and those of its file are the same pairs.
 module _ (m : Machine) (S : Shaped m) where
@@ -105,7 +105,7 @@ module _ (m : Machine) (S : Shaped m) where
         }
 
     pub yes : checkOf (viewsOf m) ≡ found Finding.Nothing 0 0
-    yes = yesIsNoFinding (viewsOf m) .1 (acceptsExactly (viewsOf m) .1 obeys)
+    yes = yes-is-no-finding (viewsOf m) .1 (accepts-exactly (viewsOf m) .1 obeys)
 
 -- The values that an order file gives are 32-bit numbers.
 abbrev WordOrder : Order → Type 0
@@ -172,7 +172,7 @@ file-words s b budget i low high =
     let f = few-processes s (headerOf s) refl in
     omega (
       arith,
-      ap (λ (m : Machine). valueOf m i) (everyFileCounted s budget .state),
+      ap (λ (m : Machine). valueOf m i) (every-file-counted s budget .state),
       value-given (processesOf s) (f .0) (f .1) (callsOf s budget) i low high,
       given-below (fresh (processesOf s)) (callsOf s budget) i (word-calls s b budget (headerOf s)),
     )
@@ -181,17 +181,17 @@ file-words s b budget i low high =
 accepts : (n : ℕ) (cs : List Call) (m : Machine) → DemandThree n cs m → Words m → Accepted m
 accepts n cs m d w =
     let ok : checkOf (viewsOf m) ≡ found Finding.Nothing 0 0 = yes m (d .shape .shape) (given n cs) (d .properties) in
-    let back : readOf (bytesOf m) ≡ readWhole (bytesOf m) (viewsOf m) = writtenReadsBack m (d .shape .held) w (record-shaped m (d .shape .shape)) in
+    let back : readOf (bytesOf m) ≡ readWhole (bytesOf m) (viewsOf m) = written-reads-back m (d .shape .held) w (record-shaped m (d .shape .shape)) in
     record {
       checked = ok;
-      verdict = readThenChecked (bytesOf m) (ap (λ (r : ViewsRead). numbers.accepted (r .answer)) back)
+      verdict = read-then-checked (bytesOf m) (ap (λ (r : ViewsRead). numbers.accepted (r .answer)) back)
           ∙ ap (λ (r : ViewsRead). judged (length (bytesOf m)) (checkOf (r .views))) back
           ∙ ap (judged (length (bytesOf m))) ok;
     }
 
-pub everyRunAccepted : EveryRunAccepted
-everyRunAccepted n low high cs w = accepts n cs (runs n cs) (demand-three n low high cs) w
+pub every-run-accepted : EveryRunAccepted
+every-run-accepted n low high cs w = accepts n cs (runs n cs) (demand-three n low high cs) w
 
-pub everyFileAccepted : EveryFileAccepted
-everyFileAccepted s b budget =
-    accepts (processesOf s) (callsOf s budget) (replayOf s budget .machine) (everyFileDemandThree s budget) (file-words s b budget)
+pub every-file-accepted : EveryFileAccepted
+every-file-accepted s b budget =
+    accepts (processesOf s) (callsOf s budget) (replayOf s budget .machine) (every-file-demand-three s budget) (file-words s b budget)

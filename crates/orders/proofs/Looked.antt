@@ -46,9 +46,9 @@ finishes (Running x k f) = refl
 finishes (Finished x w) = refl
 finishes (Crashed x k f) = refl
 
-pub everyViewLooked : EveryViewLooked
+pub every-view-looked : EveryViewLooked
 unfolding lookOf
-everyViewLooked m e i low high =
+every-view-looked m e i low high =
     let top : i ≤ 32 = omega (arith, shaped-record m e .most) in
     let s = stageOf m i in
     let l : lookOf m i ≡ looked m s

@@ -97,8 +97,8 @@ reads (c ∷ cs) a (suc k) w h =
     ∙ follows s (length a) k c
     ∙ ap (then c) next
 
-pub everyListReplays : EveryListReplays
+pub every-list-replays : EveryListReplays
 unfolding replayOf
-everyListReplays n low high cs w budget h =
+every-list-replays n low high cs w budget h =
     ap (replayBy (orderFile n cs) budget) (header-read n (orderBytes cs) low high)
     ∙ ap (replayed n) (reads cs (77 ∷ 78 ∷ n ∷ []) budget w h)

@@ -17,16 +17,16 @@ unfolding tally from
 counted-by s budget (Header.Fault a) e = record { most = omega arith; taken = refl; accesses = refl; refused = refl; state = refl }
 counted-by s budget (Header.Of n) e = record { most = few-calls s budget n e; taken = refl; accesses = refl; refused = refl; state = refl }
 
-pub everyFileCounted : EveryFileCounted
+pub every-file-counted : EveryFileCounted
 unfolding replayOf
-everyFileCounted s budget = counted-by s budget (headerOf s) refl
+every-file-counted s budget = counted-by s budget (headerOf s) refl
 
-pub everyFileHolds : EveryFileHolds
-everyFileHolds s budget n e = held-calls s budget n e
+pub every-file-holds : EveryFileHolds
+every-file-holds s budget n e = held-calls s budget n e
 
-pub refusedHeader : RefusedHeader
+pub refused-header : RefusedHeader
 unfolding replayOf
-refusedHeader s budget a e = ap (replayBy s budget) e
+refused-header s budget a e = ap (replayBy s budget) e
 
 -- 1 to 32 processes, with a refused header one
 pub few-processes : (s : List ℕ) (h : Header) → headerOf s ≡ h → (1 ≤ processesBy h) × (processesBy h ≤ 32)
@@ -45,13 +45,13 @@ demand-three n low high cs =
       never = never-one-nor-seven n low high cs;
     }
 
-pub everyFileDemandThree : EveryFileDemandThree
-everyFileDemandThree s budget =
+pub every-file-demand-three : EveryFileDemandThree
+every-file-demand-three s budget =
     let f = few-processes s (headerOf s) refl in
-    subst (DemandThree (processesOf s) (callsOf s budget)) (sym (everyFileCounted s budget .state))
+    subst (DemandThree (processesOf s) (callsOf s budget)) (sym (every-file-counted s budget .state))
     (demand-three (processesOf s) (f .0) (f .1) (callsOf s budget))
 
-pub everyFileAccesses : EveryFileAccesses
-everyFileAccesses s budget =
+pub every-file-accesses : EveryFileAccesses
+every-file-accesses s budget =
     let f = few-processes s (headerOf s) refl in
-    everyFileCounted s budget .accesses ∙ counts-of-runs (processesOf s) (f .0) (f .1) (callsOf s budget) .steps
+    every-file-counted s budget .accesses ∙ counts-of-runs (processesOf s) (f .0) (f .1) (callsOf s budget) .steps

@@ -131,10 +131,10 @@ module _ (m : Machine) (S : Shaped m) where
         no-member = λ i j low high below above h. value-unnamed i low high j below above (ap (λ (w : ℕ). has w j) (sym (seen m i low high)) ∙ h);
       }
 
-pub writtenReadsBack : WrittenReadsBack
+pub written-reads-back : WrittenReadsBack
 unfolding bytesOf
-writtenReadsBack m H W e = files.readsBack (viewsOf m) (in-range m (shaped-record m e) H W)
+written-reads-back m H W e = files.reads-back (viewsOf m) (in-range m (shaped-record m e) H W)
 
-pub writesBytes : WritesBytes
+pub writes-bytes : WritesBytes
 unfolding bytesOf
-writesBytes m H W e = files.writesBytes (viewsOf m) (in-range m (shaped-record m e) H W)
+writes-bytes m H W e = files.writes-bytes (viewsOf m) (in-range m (shaped-record m e) H W)

@@ -178,8 +178,8 @@ one-list s at cs ds h g l =
     sym (append-nil cs) ∙ ap (λ (x : List Call). cs ++ x) (sym none) ∙ ap (λ (x : Orders). x .calls) o
     ∙ ap (λ (x : List Call). ds ++ x) (t .0) ∙ append-nil ds
 
-pub holdsOne : HoldsOne
-holdsOne s at cs ds h g =
+pub holds-one : HoldsOne
+holds-one s at cs ds h g =
     ⊎-elim (λ l. one-list s at cs ds h g l) (λ l. sym (one-list s at ds cs g h (omega arith))) (at-most-or-above (length cs) (length ds))
 
 -- a file whose header is read
@@ -282,8 +282,8 @@ refused-at s budget k at n =
     (λ p. let r = header-answers s budget k n (headerOf s) refl (header-number s ∙ p .1) in (r .0, r .1 ∙ sym (p .0)))
     (λ p. record-answers s budget k at n (p .0) (p .1) (p .2) (p .3) (eqb (length (p .0)) budget) refl (p .4))
 
-pub refusedExactly : RefusedExactly
-refusedExactly s budget k at n = (λ p. refusal-by s budget k at n (headerOf s) refl (p .0) (p .1), refused-at s budget k at n)
+pub refused-exactly : RefusedExactly
+refused-exactly s budget k at n = (λ p. refusal-by s budget k at n (headerOf s) refl (p .0) (p .1), refused-at s budget k at n)
 
 -- And 0.
 ends-by : (s : List ℕ) (budget : ℕ) (cs : List Call) → ToTheEnd s budget cs → (h : Header) → headerOf s ≡ h → Holds s (length s) cs × (length cs ≤ budget)
@@ -305,5 +305,5 @@ ends-with s budget cs c =
       calls = r .2 ∙ ap (λ (x : Orders). x .calls) o ∙ append-nil cs;
     }
 
-pub wholeExactly : WholeExactly
-wholeExactly s budget cs = (λ t. ends-by s budget cs t (headerOf s) refl, λ p. ends-with s budget cs (comes budget (p .0) (p .1)))
+pub whole-exactly : WholeExactly
+whole-exactly s budget cs = (λ t. ends-by s budget cs t (headerOf s) refl, λ p. ends-with s budget cs (comes budget (p .0) (p .1)))

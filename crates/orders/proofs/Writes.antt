@@ -86,5 +86,5 @@ numbered m b true true e f =
       written = λ h. (ap (λ (r : Written). r .bytes) (sym (a .0)), sym (a .1));
     }
 
-pub everyWriteNumbered : EveryWriteNumbered
-everyWriteNumbered m b = numbered m b (shaped m) (leb (length (bytesOf m)) (length b)) refl refl
+pub every-write-numbered : EveryWriteNumbered
+every-write-numbered m b = numbered m b (shaped m) (leb (length (bytesOf m)) (length b)) refl refl

@@ -10,7 +10,7 @@ use Rattle.rules.specs.declared.Called.{Called}
 use Rattle.rules.specs.declared.Answer.the-variants.{NotShaped}
 use Rattle.rules.specs.State.{stageOf}
 use Rattle.rules.specs.Shape.{shaped}
-use Rattle.rules.specs.Calls.{refused, enterAt, enterOf, crashAt, crashOf, stepOf, reading, settle, access, rowValues}
+use Rattle.rules.specs.Calls.{fresh, refused, enterAt, enterOf, crashAt, crashOf, stepOf, reading, settle, access, rowValues}
 use Rattle.rules.specs.Statements.{Meets}
 use Rattle.rules.proofs.Laws.Small.{cond-true}
 use Rattle.rules.proofs.Laws.Shape.{record-shaped}
@@ -23,12 +23,12 @@ use Rattle.files.specs.Records.{markOf, markAt, headerOf, orderAt, viewAt}
 use Rattle.files.specs.ViewFile.{joined, testedAt, valuesRead, readFrom, readOf}
 use Rattle.views.specs.Findings.{agree, inside, breaks, ofOne, ofPair, findings, checkOf}
 use Rattle.views.specs.Verdict.{verdictOf}
-use Rattle.orders.specs.declared.Run.{Run}
+use Rattle.orders.specs.declared.Counts.{Counts}
 use Rattle.orders.specs.declared.Replayed.{Replayed}
 use Rattle.orders.specs.Replays.{onward, replayBy, replayOf, ordersFrom}
-use Rattle.orders.specs.Turns.{begun, counted, ends, resumed}
+use Rattle.orders.specs.Turns.{none, counted, ends, resumed}
 use Rattle.orders.specs.Examples.{MN, printedFile}
-use Rattle.orders.proofs.Turns.{resumed-took, resumed-ended, resumed-begun}
+use Rattle.orders.proofs.Turns.{resumed-took, resumed-ended, resumed-none}
 use Rattle.report.specs.Lines.{digitsIn, decimal, pair, pairsFrom, sightLine, processLine, runLine, partaking, lastLine}
 use Rattle.report.specs.Lines.{replayLines, replayText, verdictLine, verdictText}
 use Rattle.report.specs.Examples.{Texts, printed, refusedHeader, unlike}
@@ -50,44 +50,46 @@ crash-bare : (n : ℕ) (m : Machine) → Meets n m → (p : ℕ) → crashOf m p
 unfolding crashOf
 crash-bare n m M p = cond-true (shaped m) (inRange m p (crashAt (stageOf m p) m p)) (refused NotShaped m) (record-shaped m (M .shape))
 
--- a file's orders from a place on, taken after those that a run has had
-abbrev bareBy : List ℕ → ℕ → Order → Run → (ℕ → Run → Replayed) → Replayed
-bareBy s at Order.End r next = ends Whole (length s) r
-bareBy s at (Order.Fault a) r next = ends a at r
-bareBy s at (Order.Enter p v) r next = next (at + 7) (counted r (bareEnter (r .machine) p v) 0)
-bareBy s at (Order.Step p) r next = next (at + 3) (counted r (bareStep (r .machine) p) 1)
-bareBy s at (Order.Crash p) r next = next (at + 3) (counted r (bareCrash (r .machine) p) 0)
+-- a file's orders from a place on, taken after those that were counted
+abbrev bareBy : List ℕ → ℕ → Order → Counts → Machine → (ℕ → Counts → Machine → Replayed) → Replayed
+bareBy s at Order.End k m next = ends Whole (length s) k m
+bareBy s at (Order.Fault a) k m next = ends a at k m
+bareBy s at (Order.Enter p v) k m next = next (at + 7) (counted k (bareEnter m p v .answer) 0) (bareEnter m p v .machine)
+bareBy s at (Order.Step p) k m next = next (at + 3) (counted k (bareStep m p .answer) 1) (bareStep m p .machine)
+bareBy s at (Order.Crash p) k m next = next (at + 3) (counted k (bareCrash m p .answer) 0) (bareCrash m p .machine)
 
-unfoldable bareFrom : ℕ → List ℕ → ℕ → Run → Replayed
-bareFrom zero s at r = resumed r (ordersFrom 0 s at)
-bareFrom (suc k) s at r = bareBy s at (orderAt s at) r (bareFrom k s)
+unfoldable bareFrom : ℕ → List ℕ → ℕ → Counts → Machine → Replayed
+bareFrom zero s at k m = resumed k m (ordersFrom 0 s at)
+bareFrom (suc budget) s at k m = bareBy s at (orderAt s at) k m (bareFrom budget s)
 
-resumed-bare : (n k : ℕ) (s : List ℕ) (at : ℕ) (r : Run) → Meets n (r .machine) → resumed r (ordersFrom k s at) ≡ bareFrom k s at r
+resumed-bare : (n budget : ℕ) (s : List ℕ) (at : ℕ) (k : Counts) (m : Machine) → Meets n m → resumed k m (ordersFrom budget s at) ≡ bareFrom budget s at k m
 unfolding bareFrom ordersFrom
-resumed-bare n zero s at r M = refl
-resumed-bare n (suc k) s at r M = by (orderAt s at) (λ at′ r′ M′. resumed-bare n k s at′ r′ M′)
+resumed-bare n zero s at k m M = refl
+resumed-bare n (suc budget) s at k m M = by (orderAt s at) (λ at′ k′ m′ M′. resumed-bare n budget s at′ k′ m′ M′)
   where
-    by : (o : Order) → ((at′ : ℕ) (r′ : Run) → Meets n (r′ .machine) → resumed r′ (ordersFrom k s at′) ≡ bareFrom k s at′ r′)
-        → resumed r (onward s at o (ordersFrom k s)) ≡ bareBy s at o r (bareFrom k s)
-    by Order.End f = sym (resumed-ended r Whole (length s))
-    by (Order.Fault a) f = sym (resumed-ended r a at)
+    by : (o : Order) → ((at′ : ℕ) (k′ : Counts) (m′ : Machine) → Meets n m′ → resumed k′ m′ (ordersFrom budget s at′) ≡ bareFrom budget s at′ k′ m′)
+        → resumed k m (onward s at o (ordersFrom budget s)) ≡ bareBy s at o k m (bareFrom budget s)
+    by Order.End f = sym (resumed-ended k m Whole (length s))
+    by (Order.Fault a) f = sym (resumed-ended k m a at)
     by (Order.Enter p v) f =
-        resumed-took r _ (ordersFrom k s (at + 7))
-        ∙ f (at + 7) (counted r (enterOf (r .machine) p v) 0) (every-state-meets .enter n (r .machine) M p v)
-        ∙ ap (λ (a : Called). bareFrom k s (at + 7) (counted r a 0)) (enter-bare n (r .machine) M p v)
+        resumed-took k m _ (ordersFrom budget s (at + 7))
+        ∙ f (at + 7) (counted k (enterOf m p v .answer) 0) (enterOf m p v .machine) (every-state-meets .enter n m M p v)
+        ∙ ap (λ (a : Called). bareFrom budget s (at + 7) (counted k (a .answer) 0) (a .machine)) (enter-bare n m M p v)
     by (Order.Step p) f =
-        resumed-took r _ (ordersFrom k s (at + 3)) ∙ f (at + 3) (counted r (stepOf (r .machine) p) 1) (every-state-meets .step n (r .machine) M p)
-        ∙ ap (λ (a : Called). bareFrom k s (at + 3) (counted r a 1)) (step-bare n (r .machine) M p)
+        resumed-took k m _ (ordersFrom budget s (at + 3))
+        ∙ f (at + 3) (counted k (stepOf m p .answer) 1) (stepOf m p .machine) (every-state-meets .step n m M p)
+        ∙ ap (λ (a : Called). bareFrom budget s (at + 3) (counted k (a .answer) 1) (a .machine)) (step-bare n m M p)
     by (Order.Crash p) f =
-        resumed-took r _ (ordersFrom k s (at + 3)) ∙ f (at + 3) (counted r (crashOf (r .machine) p) 0) (every-state-meets .crash n (r .machine) M p)
-        ∙ ap (λ (a : Called). bareFrom k s (at + 3) (counted r a 0)) (crash-bare n (r .machine) M p)
+        resumed-took k m _ (ordersFrom budget s (at + 3))
+        ∙ f (at + 3) (counted k (crashOf m p .answer) 0) (crashOf m p .machine) (every-state-meets .crash n m M p)
+        ∙ ap (λ (a : Called). bareFrom budget s (at + 3) (counted k (a .answer) 0) (a .machine)) (crash-bare n m M p)
 
-replay-bare : (s : List ℕ) (budget n : ℕ) → headerOf s ≡ Header.Of n → 1 ≤ n → n ≤ 32 → replayOf s budget ≡ bareFrom budget s 3 (begun n)
+replay-bare : (s : List ℕ) (budget n : ℕ) → headerOf s ≡ Header.Of n → 1 ≤ n → n ≤ 32 → replayOf s budget ≡ bareFrom budget s 3 none (fresh n)
 unfolding replayOf
 replay-bare s budget n e l h =
-    ap (replayBy s budget) e ∙ sym (resumed-begun n (ordersFrom budget s 3)) ∙ resumed-bare n budget s 3 (begun n) (meets-fresh n l h)
+    ap (replayBy s budget) e ∙ sym (resumed-none n (ordersFrom budget s 3)) ∙ resumed-bare n budget s 3 none (fresh n) (meets-fresh n l h)
 
-printed-lines : replayLines (bareFrom 65535 printedFile 3 (begun 2)) ≡ printed
+printed-lines : replayLines (bareFrom 65535 printedFile 3 none (fresh 2)) ≡ printed
 unfolding replayLines runLine bareFrom orderAt markAt markOf access settle reading has plus count size joined processLine sightLine rowValues
     pairsFrom pair decimal digitsIn lastLine partaking
 printed-lines = refl

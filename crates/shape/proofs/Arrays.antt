@@ -27,23 +27,23 @@ upto-more {d = d} {f} {l} {i} v h e u = record {
 }
 
 -- all of it: the array is the map of another
-pub upto-map : {A B : Type 0} (g : A → B) (d : A) (s : List A) (l : List B) → length l ≡ length s → Upto (g d) (λ k. g (getD s k d)) l (length s) → l ≡ map g s
-upto-map g d s l e u =
-    ext-getD (g d) l (map g s) (e ∙ sym (length-map s g))
-    (λ i h. u .at i (subst (λ (n : ℕ). i < n) e h) ∙ sym (List·getD-map g s i d))
+pub upto-map : {A B : Type 0} (g : A → B) (d : A) (s : List A) (l : List B) (i : ℕ) → length l ≡ length s → i ≡ length s
+    → Upto (g d) (λ k. g (getD s k d)) l i → l ≡ map g s
+upto-map g d s l i e m u =
+    ext-getD (g d) l (map g s) (e ∙ sym (length-map s g)) (λ k h. u .at k (omega arith) ∙ sym (List·getD-map g s k d))
 
 -- the index of process i + 1
 pub back-one : (i : ℕ) → i + 1 - 1 ≡ i
 back-one i = omega arith
 
 -- a loop that gathers a test over 1, 2, ..: one more
-pub every-more : (f : ℕ → Bool) (i : ℕ) {b ok : Bool} → b ≡ f (i + 1) → ok ≡ every i f → (b && ok) ≡ every (i + 1) f
+every-more : (f : ℕ → Bool) (i : ℕ) {b ok : Bool} → b ≡ f (i + 1) → ok ≡ every i f → (b && ok) ≡ every (i + 1) f
 unfolding every
 every-more f i e e′ = ap₂ _&&_ e e′ ∙ rw (add-one i)
 
--- the same where the test is of what stands at process p's place in an array
-pub every-place : (g : ℕ → Bool) (i : ℕ) {b ok : Bool} → b ≡ g i → ok ≡ every i (λ p. g (p - 1)) → (b && ok) ≡ every (i + 1) (λ p. g (p - 1))
-every-place g i e e′ = every-more (λ p. g (p - 1)) i (e ∙ ap g (sym (back-one i))) e′
+-- the same where the test of p is of what stands at p's place in an array too
+pub every-place : (g : ℕ → ℕ → Bool) (i : ℕ) {b ok : Bool} → b ≡ g (i + 1) i → ok ≡ every i (λ p. g p (p - 1)) → (b && ok) ≡ every (i + 1) (λ p. g p (p - 1))
+every-place g i e e′ = every-more (λ p. g p (p - 1)) i (e ∙ ap (g (i + 1)) (sym (back-one i))) e′
 
 pub getD-zeros : (n k : ℕ) → _≡_ {A = ℕ} (getD (replicate n 0) k 0) 0
 getD-zeros zero k = refl

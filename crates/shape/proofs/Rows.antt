@@ -21,7 +21,7 @@ use Rattle.rules.specs.declared.Process.{Process}
 use Rattle.rules.specs.declared.Machine.{Machine}
 use Rattle.rules.specs.State.{nobody, processOf, stageOf, valueOf, rowOf, cellOf, entered, wrote}
 use Rattle.rules.specs.Shape.{goes, ends, shapedStage, shapedProcess, shapedRecords, shapedRegister, shapedRegisters, shaped}
-use Rattle.shape.specs.Columns.{columnsOf, cellGood, cellsGood, rowGood, rowsGood, ByRow, writersOf, lowestAt, lowestRow}
+use Rattle.shape.specs.Columns.{LowestRows, lowsOf, ownsOf, cellGood, cellsGood, rowGood, rowsGood, ByRow, writersOf, lowestAt, lowestRow}
 use Rattle.shape.proofs.Arrays.{back-one}
 
 -- ---- sorting by lowest row
@@ -41,18 +41,15 @@ pub by-row-none : (low : List ℕ) (buckets : List ℕ) → ((x : ℕ) → getD 
 unfolding setOf
 by-row-none low buckets z = record { at = λ x h. z x }
 
-pub by-row-more : (low buckets : List ℕ) (i : ℕ) → length buckets ≡ 34 → getD low i 0 ≤ 33 → ByRow low i buckets
-    → ByRow low (i + 1) (set buckets (getD low i 0) (plus (getD buckets (getD low i 0) 0) (i + 1)))
-by-row-more low buckets i n h b = record { at = λ x le. elim (ℕ-discrete (getD low i 0) x) [ yes e ↦ here x le e | no ne ↦ there x le ne ] }
+pub by-row-more : (low buckets : List ℕ) (i l : ℕ) → l ≡ getD low i 0 → l ≤ 33 → length buckets ≡ 34 → ByRow low i buckets
+    → ByRow low (i + 1) (set buckets l (plus (getD buckets l 0) (i + 1)))
+by-row-more low buckets i l lowest h n b = record { at = λ x le. elim (ℕ-discrete l x) [ yes e ↦ here x le e | no ne ↦ there x le ne ] }
   where
-    l : ℕ
-    l = getD low i 0
-
     inside : l < length buckets
     inside = subst (λ (k : ℕ). l < k) (sym n) (omega arith)
 
     at-next : (x : ℕ) → lowestIs low x (i + 1) ≡ eqb l x
-    at-next x = ap (λ (k : ℕ). eqb (getD low k 0) x) (back-one i)
+    at-next x = ap (λ (k : ℕ). eqb k x) (ap (λ (k : ℕ). getD low k 0) (back-one i) ∙ sym lowest)
 
     here : (x : ℕ) → x ≤ 33 → l ≡ x → getD (set buckets l (plus (getD buckets l 0) (i + 1))) x 0 ≡ setOf (lowestIs low x) (i + 1)
     here x le e =
@@ -231,7 +228,7 @@ lowestAt-low l k h = go (leb l 32) (eqb k 0)
     go true false = h
     go false c = omega arith
 
-lowest-high : (s : Stage) → lowestRow s ≤ 33
+pub lowest-high : (s : Stage) → lowestRow s ≤ 33
 lowest-high Absent = omega arith
 lowest-high (Running l k f) = lowestAt-high l k
 lowest-high (Finished l w) = lowestAt-high l 1
@@ -255,7 +252,7 @@ lowest-is-wrote n row (Crashed l k f) x m u h = let q = level-low n row l k f h 
 -- ---- the test of the code is the test of the definitions
 
 -- an element of a map
-getD-map-in : {A : Type 0} (g : A → ℕ) (d : A) (s : List A) (k : ℕ) → k < length s → getD (map g s) k 0 ≡ g (getD s k d)
+pub getD-map-in : {A : Type 0} (g : A → ℕ) (d : A) (s : List A) (k : ℕ) → k < length s → getD (map g s) k 0 ≡ g (getD s k d)
 getD-map-in g d [] k h = absurd (let z : ⊥ = omega arith in z)
 getD-map-in g d (a ∷ s) zero h = refl
 getD-map-in g d (a ∷ s) (suc k) h = getD-map-in g d s k (omega arith)
@@ -270,10 +267,10 @@ stage-passed n row i P h = both {a = cond (entered (P .stage)) (leb i n) (eqb (P
 
 -- what the code reads off the records of m
 abbrev pub lowOf : Machine → List ℕ
-lowOf m = columnsOf (m .processes) .low
+lowOf m = lowsOf (m .processes)
 
 abbrev pub ownOf : Machine → List ℕ
-ownOf m = columnsOf (m .processes) .own
+ownOf m = ownsOf (m .processes)
 
 module _ (m : Machine) (most : m .n ≤ 32) (slots : length (m .processes) ≡ 32) where
   low-at : (k : ℕ) → k < 32 → getD (lowOf m) k 0 ≡ lowestRow (getD (m .processes) k nobody .stage)
@@ -282,7 +279,7 @@ module _ (m : Machine) (most : m .n ≤ 32) (slots : length (m .processes) ≡ 3
   own-at : (k : ℕ) → k < 32 → getD (ownOf m) k 0 ≡ getD (m .processes) k nobody .value
   own-at k h = getD-map-in (λ P. P .value) nobody (m .processes) k (omega arith)
 
-  pub low-high : (k : ℕ) → getD (lowOf m) k 0 ≤ 33
+  pub low-high : LowestRows (lowOf m)
   low-high k = elim (decLt k 32) [
     | yes h ↦ subst⁻¹ (λ (x : ℕ). x ≤ 33) (low-at k h) (lowest-high (getD (m .processes) k nobody .stage))
     | no h ↦ subst⁻¹ (λ (x : ℕ). x ≤ 33) (getD-map-out (λ P. lowestRow (P .stage)) (m .processes) k (omega arith)) (omega arith)

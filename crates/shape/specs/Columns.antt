@@ -11,6 +11,7 @@ use Rattle.rules.specs.declared.Stage.the-variants.{Absent, Running, Finished, 
 use Rattle.rules.specs.declared.Process.{Process}
 use Rattle.shape.specs.declared.Columns.{Columns}
 use Rattle.rules.specs.State.{rowIn}
+use Rattle.rules.specs.Shape.{shapedRecords}
 
 -- the lowest row written by a process that has entered, at level x after k accesses there: 33 if there is none
 abbrev pub lowestAt : ℕ → ℕ → ℕ
@@ -22,8 +23,15 @@ lowestRow (Running x k f) = lowestAt x k
 lowestRow (Finished x w) = lowestAt x 1
 lowestRow (Crashed x k f) = lowestAt x k
 
-abbrev pub columnsOf : List Process → Columns
-columnsOf ps = record { low = map (λ P. lowestRow (P .stage)) ps; own = map (λ P. P .value) ps }
+-- no number of the list is above 33, as no lowest row is
+abbrev pub LowestRows : List ℕ → Type 0
+LowestRows low = (k : ℕ) → getD low k 0 ≤ 33
+
+abbrev pub lowsOf : List Process → List ℕ
+lowsOf ps = map (λ P. lowestRow (P .stage)) ps
+
+abbrev pub ownsOf : List Process → List ℕ
+ownsOf ps = map (λ P. P .value) ps
 
 -- what register i of a row must hold: i's value if the rows up to x count as written by i, else 0
 abbrev pub wantedAt : List ℕ → List ℕ → ℕ → ℕ → ℕ
@@ -39,6 +47,13 @@ cellsGood values base low own x = every 32 (cellGood values base low own x)
 -- bucket x of `buckets` holds those of the processes 1 to k whose lowest row is x
 pub record ByRow (low : List ℕ) (k : ℕ) (buckets : List ℕ) : Type 0 where
   pub at : (x : ℕ) → x ≤ 33 → getD buckets x 0 ≡ setOf (λ i. eqb (getD low (i - 1) 0) x) k
+
+-- C is what one pass over the records gives
+pub record ReadOff (n : ℕ) (filled : List ℕ) (ps : List Process) (C : Columns) : Type 0 where
+  pub low : C .low ≡ lowsOf ps
+  pub own : C .own ≡ ownsOf ps
+  pub by-row : ByRow (lowsOf ps) 32 (C .buckets)
+  pub good : C .good ≡ shapedRecords n filled ps
 
 -- the processes that have written row x
 abbrev pub writersOf : List ℕ → ℕ → ℕ

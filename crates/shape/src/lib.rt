@@ -3,18 +3,24 @@ use rules::Process;
 use rules::Stage;
 ghost use mathlib.Core.Path.{_≡_};
 ghost use mathlib.Core.Bool.{cond, _&&_};
-ghost use Prim.Native.Nat.{ℕ, _+_, _-_, _^_, _≤_, _<_};
+ghost use Prim.Native.Nat.{ℕ, _+_, _-_, _≤_, _<_};
 ghost use lib.ListN.{getD};
 ghost use Rattle.sets.specs.Sets.{first, within};
-ghost use Rattle.rules.specs.Shape.{goes, ends, shapedStage, shapedProcess, shapedRecords, shaped};
+ghost use Rattle.rules.specs.Shape.{goes, ends, shapedStage, shapedProcess, shaped};
 ghost use Rattle.rules.specs.State.{rowIn, entered};
 ghost use lib.Dec.{leb};
-ghost use Rattle.shape.specs.Columns.{lowestAt, lowestRow, columnsOf, cellsGood, ByRow, writersOf, rowGood, rowsGood};
+ghost use Rattle.shape.specs.Columns.{lowestAt, lowestRow, LowestRows, cellsGood, ByRow, ReadOff, writersOf, rowGood, rowsGood};
 
-// For process i, at i - 1: the lowest row that it has written, 33 if none, and its value.
+// What one pass over the records gives. The bool is last, so that the arrays stay aligned.
 struct Columns {
+    // For process i, at i - 1: the lowest row that it has written, 33 if none.
     pub low: [u32; 32],
+    // For process i, at i - 1: its value.
     pub own: [u32; 32],
+    // For row x, at x: the processes whose lowest row it is.
+    pub buckets: [u32; 34],
+    // Whether every record stands as it may.
+    pub good: bool,
 }
 
 fn lowest_at(level: u32, made: u32) -> u32
@@ -49,24 +55,12 @@ fn lowest(stage: Stage) -> u32
     }
 }
 
-fn read_off(processes: [Process; 32]) -> Columns
-    ensures { λ r. ⌜ r ≡ columnsOf processes ⌝ }
-{
-    let mut low = [0u32; 32];
-    let mut own = [0u32; 32];
-    for i in 0..32usize {
-        let process = processes[i];
-        let stage = process.stage;
-        low[i] = lowest(stage);
-        own[i] = process.value;
-    }
-    Columns { low, own }
-}
-
+// Signed, since SSE2 compares signed numbers only.
 fn wanted(low: u32, own: u32, reach: u32) -> u32
+    requires { ⌜ (low ≤ 33) × (reach ≤ 32) ⌝ }
     ensures { λ r. ⌜ r ≡ cond (leb low reach) own 0 ⌝ }
 {
-    if low <= reach {
+    if (low as i32) <= (reach as i32) {
         return own;
     }
     0
@@ -80,7 +74,7 @@ fn cells_good<'a>(
     own: &'a [u32; 32],
     reach: u32,
 ) -> bool
-    requires { ⌜ base + 32 ≤ 1024 ⌝ }
+    requires { ⌜ (base + 32 ≤ 1024) × (reach ≤ 32) × LowestRows (now low) ⌝ }
     ensures { λ r. ⌜ r ≡ cellsGood (now (values .entry)) base (now (low .entry)) (now (own .entry)) reach ⌝ }
 {
     let mut ok = true;
@@ -188,30 +182,33 @@ fn process_good(n: u32, filled: &[u32; 32], i: u32, process: Process) -> bool
     false
 }
 
-fn records_good(n: u32, filled: &[u32; 32], processes: [Process; 32]) -> bool
+// One loop for all of it, so that each record is copied once.
+fn read_off(n: u32, filled: &[u32; 32], processes: [Process; 32]) -> Columns
     requires { ⌜ n ≤ 32 ⌝ }
-    ensures { λ r. ⌜ r ≡ shapedRecords n (now (filled .entry)) processes ⌝ }
+    ensures { λ r. ⌜ ReadOff n (now (filled .entry)) processes r ⌝ }
 {
-    let mut ok = true;
+    let mut low = [0u32; 32];
+    let mut own = [0u32; 32];
+    let mut buckets = [0u32; 34];
+    let mut good = true;
     for i in 0..32usize {
         let process = processes[i];
-        let good = process_good(n, filled, (i + 1) as u32, process);
-        ok = good & ok;
+        let id = (i + 1) as u32;
+        let stands = process_good(n, filled, id, process);
+        good = stands & good;
+        let stage = process.stage;
+        let x = lowest(stage);
+        low[i] = x;
+        own[i] = process.value;
+        let at = x as usize;
+        buckets[at] = sets::plus(buckets[at], id);
     }
-    ok
-}
-
-// The processes by their lowest written row.
-fn by_row(low: &[u32; 32]) -> [u32; 34]
-    requires { ⌜ ((k : ℕ) → getD (now low) k 0 ≤ 33) ⌝ }
-    ensures { λ r. ⌜ ByRow (now (low .entry)) 32 r ⌝ }
-{
-    let mut buckets = [0u32; 34];
-    for i in 0..32usize {
-        let x = low[i] as usize;
-        buckets[x] = sets::plus(buckets[x], (i + 1) as u32);
+    Columns {
+        low,
+        own,
+        buckets,
+        good,
     }
-    buckets
 }
 
 // Two sets with the same members.
@@ -234,7 +231,7 @@ fn row_good<'a>(
     low: &'a [u32; 32],
     own: &'a [u32; 32],
 ) -> bool
-    requires { ⌜ (1 ≤ x) × (x ≤ 32) × (written ≡ writersOf (now low) x) ⌝ }
+    requires { ⌜ (1 ≤ x) × (x ≤ 32) × (written ≡ writersOf (now low) x) × LowestRows (now low) ⌝ }
     ensures { λ r. ⌜ r ≡ rowGood n (now (values .entry)) (now (low .entry)) (now (own .entry)) row x ⌝ }
 {
     let base = (32 * (x - 1)) as usize;
@@ -257,11 +254,11 @@ fn rows_good<'a>(
     values: &'a [u32; 1024],
     low: &'a [u32; 32],
     own: &'a [u32; 32],
+    buckets: &'a [u32; 34],
 ) -> bool
-    requires { ⌜ ((k : ℕ) → getD (now low) k 0 ≤ 33) × ((k : ℕ) → k < 32 → 1 ≤ getD (now low) k 0) ⌝ }
+    requires { ⌜ LowestRows (now low) × ((k : ℕ) → k < 32 → 1 ≤ getD (now low) k 0) × ByRow (now low) 32 (now buckets) ⌝ }
     ensures { λ r. ⌜ r ≡ rowsGood n (now (filled .entry)) (now (values .entry)) (now (low .entry)) (now (own .entry)) ⌝ }
 {
-    let buckets = by_row(low);
     let mut ok = true;
     let mut written = 0u32;
     for i in 0..32usize {
@@ -287,9 +284,16 @@ pub fn shaped<'a>(
     if 32 < n {
         return false;
     }
-    if records_good(n, filled, processes) {
-        let columns = read_off(processes);
-        return rows_good(n, filled, values, &columns.low, &columns.own);
+    let columns = read_off(n, filled, processes);
+    if columns.good {
+        return rows_good(
+            n,
+            filled,
+            values,
+            &columns.low,
+            &columns.own,
+            &columns.buckets,
+        );
     }
     false
 }

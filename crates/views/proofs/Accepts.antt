@@ -268,5 +268,5 @@ obeyed v o =
           };
     }
 
-pub acceptsExactly : AcceptsExactly
-acceptsExactly v = (λ e. obeys v (fine v e), λ o. not-found v (obeyed v o))
+pub accepts-exactly : AcceptsExactly
+accepts-exactly v = (λ e. obeys v (fine v e), λ o. not-found v (obeyed v o))

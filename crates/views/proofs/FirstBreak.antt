@@ -25,9 +25,9 @@ unfolding findings
 real-findings v =
     real-append (ofAll v) (joined 1 32 (ofPairs v)) (real-joined 1 32 (ofOne v) (real-ofOne v)) (real-joined 1 32 (ofPairs v) (real-ofPairs v))
 
-pub yesIsNoFinding : YesIsNoFinding
+pub yes-is-no-finding : YesIsNoFinding
 unfolding checkOf
-yesIsNoFinding v = (λ e. none-first (findings v) (real-findings v) (ap (λ (f : Found). isFinding (f .finding)) e), λ e. ap firstOf e)
+yes-is-no-finding v = (λ e. none-first (findings v) (real-findings v) (ap (λ (f : Found). isFinding (f .finding)) e), λ e. ap firstOf e)
 
 -- The first of lists that are joined: which of them has it.
 record At (a k : ℕ) (f : ℕ → List Found) (g : Found) : Type 0 where
@@ -196,8 +196,8 @@ answered v k i j t e =
     inr (pairs-first v k i j t none (sym (ap (λ l. firstOf (l ++ joined 1 32 (ofPairs v))) none) ∙ e)))
     (either (isFinding (firstOf (ofAll v) .finding)))
 
-pub namesTheFirst : NamesTheFirst
-namesTheFirst v k i j t = (
+pub names-the-first : NamesTheFirst
+names-the-first v k i j t = (
   answered v k i j t,
   ⊎-elim
       (λ p. alone-answers v i (p .2) ∙ ap₂ (λ (x : Finding) (y : ℕ). found x i y) (sym (p .0)) (sym (p .1)))

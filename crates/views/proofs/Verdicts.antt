@@ -18,10 +18,10 @@ use Rattle.views.specs.declared.FileVerdict.{FileVerdict}
 use Rattle.views.specs.Findings.{findingNumber, isFinding, findings, checkOf}
 use Rattle.views.specs.Verdict.{judged, unread, verdictBy, verdictOf}
 use Rattle.views.specs.Properties.{Obeys, RefusedFirst, ReadThenChecked, YesExactly}
-use Rattle.files.proofs.WholeFile.{readPlace}
+use Rattle.files.proofs.WholeFile.{read-place}
 use Rattle.views.proofs.First.{none-first}
-use Rattle.views.proofs.Accepts.{acceptsExactly}
-use Rattle.views.proofs.FirstBreak.{real-findings, yesIsNoFinding}
+use Rattle.views.proofs.Accepts.{accepts-exactly}
+use Rattle.views.proofs.FirstBreak.{real-findings, yes-is-no-finding}
 
 abbrev pub parts : ℕ → ℕ → ℕ → ℕ → FileVerdict
 parts k at i j = record { number = k; place = at; i = i; j = j }
@@ -47,11 +47,11 @@ unfolding verdictOf
 verdict-if s b e =
     ap (λ (c : Bool). cond c (judged (readOf s .place) (checkOf (readOf s .views))) (unread (numberOf (readOf s .answer)) (readOf s .place))) e
 
-pub refusedFirst : RefusedFirst
-refusedFirst s e = verdict-if s false e
+pub refused-first : RefusedFirst
+refused-first s e = verdict-if s false e
 
-pub readThenChecked : ReadThenChecked
-readThenChecked s e = verdict-if s true e ∙ ap (λ (at : ℕ). judged at (checkOf (readOf s .views))) (readPlace s e)
+pub read-then-checked : ReadThenChecked
+read-then-checked s e = verdict-if s true e ∙ ap (λ (at : ℕ). judged at (checkOf (readOf s .views))) (read-place s e)
 
 -- a finding's number is not 0
 no-number : (k : Finding) → findingNumber k ≡ 0 → isFinding k ≡ false
@@ -66,15 +66,15 @@ unfolding checkOf
 yes-by s z =
     ⊎-elim
     (λ e. let v : Views = readOf s .views in
-    let k : findingNumber (checkOf v .finding) ≡ 0 = sym (ap (λ (x : FileVerdict). x .number) (readThenChecked s e)) ∙ z in
-    (e, acceptsExactly v .0 (none-first (findings v) (real-findings v) (no-number (checkOf v .finding) k))))
-    (λ e. absurd (eqb-false (numberOf (readOf s .answer)) 0 e (sym (ap (λ (x : FileVerdict). x .number) (refusedFirst s e)) ∙ z)))
+    let k : findingNumber (checkOf v .finding) ≡ 0 = sym (ap (λ (x : FileVerdict). x .number) (read-then-checked s e)) ∙ z in
+    (e, accepts-exactly v .0 (none-first (findings v) (real-findings v) (no-number (checkOf v .finding) k))))
+    (λ e. absurd (eqb-false (numberOf (readOf s .answer)) 0 e (sym (ap (λ (x : FileVerdict). x .number) (refused-first s e)) ∙ z)))
     (either (accepted (readOf s .answer)))
 
-pub yesExactly : YesExactly
-yesExactly s = (
+pub yes-exactly : YesExactly
+yes-exactly s = (
   yes-by s,
   λ p. let v : Views = readOf s .views in
-      ap (λ (x : FileVerdict). x .number) (readThenChecked s (p .0))
-      ∙ ap (λ (f : Found). findingNumber (f .finding)) (yesIsNoFinding v .1 (acceptsExactly v .1 (p .1))),
+      ap (λ (x : FileVerdict). x .number) (read-then-checked s (p .0))
+      ∙ ap (λ (f : Found). findingNumber (f .finding)) (yes-is-no-finding v .1 (accepts-exactly v .1 (p .1))),
 )

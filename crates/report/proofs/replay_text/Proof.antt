@@ -5,7 +5,7 @@ use lib.ListN.{length}
 use denote.Ref.{now}
 use Rattle.rules.specs.Shape.{Shaped}
 use Rattle.orders.specs.declared.Replayed.{Replayed}
-use Rattle.orders.proofs.Promises.{everyFileDemandThree}
+use Rattle.orders.proofs.Promises.{every-file-demand-three}
 use Rattle.report.specs.Lines.{replayLines}
 use Rattle.report.proofs.Fits.{replay-short, replay-long, whole}
 use borrow.Author.Needs.{needs}
@@ -31,7 +31,7 @@ put-replay-requires c κs =
     let l : length (now (c .before .before .before .before .args .out)) ≡ 16384 = search needs in (
       omega arith,
       subst (λ (r : Replayed). Shaped (r .machine)) (sym (c .before .replay .ensures))
-          (everyFileDemandThree (now (c .before .before .before .before .args .bytes)) 65535 .shape .shape),
+          (every-file-demand-three (now (c .before .before .before .before .args .bytes)) 65535 .shape .shape),
     )
 
 returns-2 : tie.Need-returns-2

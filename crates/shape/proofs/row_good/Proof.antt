@@ -2,6 +2,7 @@
 use mathlib.Core.Path.{sym, ap, _∙_}
 use mathlib.Core.Bool.{_&&_}
 use Prim.Native.Nat.{ℕ}
+use native.Mathlib.Omega.{arith}
 use borrow.Author.Tests.{lt-leb, le-leb}
 use Rattle.sets.specs.Sets.{within}
 use borrow.Author.Needs.{needs}
@@ -21,7 +22,7 @@ within-requires : tie.Need-within-requires
 within-requires c κs = search needs
 
 cells-good-requires : tie.Need-cells-good-requires
-cells-good-requires c κs = search needs
+cells-good-requires c κs = (omega arith, omega arith, c .before .before .before .pre .3)
 
 returns : tie.Need-returns
 returns c = rw (lt-leb _ _ (c .before .before .before .if1 .taken), sym (c .before .before .within .ensures) ∙ c .before .if2 .taken) (c .cells-good .ensures)
@@ -33,7 +34,7 @@ same-set-requires : tie.Need-same-set-requires
 same-set-requires c κs = search needs
 
 cells-good-requires-2 : tie.Need-cells-good-requires-2
-cells-good-requires-2 c κs = search needs
+cells-good-requires-2 c κs = (omega arith, omega arith, c .before .before .before .pre .3)
 
 returns-3 : tie.Need-returns-3
 returns-3 c =
