@@ -1,7 +1,8 @@
 -- `files::order_at` meets its contract: each arm is the definition at the mark that was found.
-use mathlib.Core.Path.{sym, ap, _∙_}
+use mathlib.Core.Path.{_≡_, sym, ap, _∙_}
 use denote.Ref.{now}
 use borrow.Author.Needs.{needs}
+use Rattle.files.specs.declared.Mark.{Mark}
 use Rattle.files.specs.Records.{orderBy, orderAt}
 use Rattle.files.proofs.order_at.Statement.{statement}
 use Rattle.files.proofs.order_at.Tie as tie
@@ -42,53 +43,34 @@ enum-told-7 c = search needs
 enum-told-8 : tie.Need-enum-told-8
 enum-told-8 c = search needs
 
-returns : tie.Need-returns
+-- what stands there, by the mark that was found
+at-mark : (d : tie.After-mark-at) (m : Mark) → d .mark-at .result ≡ m → orderBy (now (d .before .before .args .s)) (d .before .before .args .at) m ≡ orderAt (now (d .before .before .args .s)) (d .before .before .args .at)
 unfolding orderAt
-returns c =
-    let a = c .before .before .before .before .args in
-    ap (orderBy (now (a .s)) (a .at)) (sym (c .enum-told .given .1) ∙ c .before .before .mark-at .ensures)
+at-mark d m e = ap (orderBy (now (d .before .before .args .s)) (d .before .before .args .at)) (sym e ∙ d .mark-at .ensures)
+
+returns : tie.Need-returns
+returns c = at-mark (c .before .before) _ (c .enum-told .given .1)
 
 returns-2 : tie.Need-returns-2
-unfolding orderAt
-returns-2 c =
-    let a = c .before .before .before .before .args in
-    ap (orderBy (now (a .s)) (a .at)) (sym (c .enum-told2 .given .1) ∙ c .before .before .mark-at .ensures)
+returns-2 c = at-mark (c .before .before) _ (c .enum-told2 .given .1)
 
 returns-3 : tie.Need-returns-3
-unfolding orderAt
-returns-3 c =
-    let a = c .before .before .before .before .args in
-    ap (orderBy (now (a .s)) (a .at)) (sym (c .enum-told3 .given .1) ∙ c .before .before .mark-at .ensures)
+returns-3 c = at-mark (c .before .before) _ (c .enum-told3 .given .1)
 
 returns-4 : tie.Need-returns-4
-unfolding orderAt
-returns-4 c =
-    let a = c .before .before .before .before .before .args in
-    c .enter-at .ensures ∙ ap (orderBy (now (a .s)) (a .at)) (sym (c .before .enum-told4 .given .1) ∙ c .before .before .before .mark-at .ensures)
+returns-4 c = c .enter-at .ensures ∙ at-mark (c .before .before .before) _ (c .before .enum-told4 .given .1)
 
 returns-5 : tie.Need-returns-5
-unfolding orderAt
-returns-5 c =
-    let a = c .before .before .before .before .before .args in
-    c .step-at .ensures ∙ ap (orderBy (now (a .s)) (a .at)) (sym (c .before .enum-told5 .given .1) ∙ c .before .before .before .mark-at .ensures)
+returns-5 c = c .step-at .ensures ∙ at-mark (c .before .before .before) _ (c .before .enum-told5 .given .1)
 
 returns-6 : tie.Need-returns-6
-unfolding orderAt
-returns-6 c =
-    let a = c .before .before .before .before .before .args in
-    c .crash-at .ensures ∙ ap (orderBy (now (a .s)) (a .at)) (sym (c .before .enum-told6 .given .1) ∙ c .before .before .before .mark-at .ensures)
+returns-6 c = c .crash-at .ensures ∙ at-mark (c .before .before .before) _ (c .before .enum-told6 .given .1)
 
 returns-7 : tie.Need-returns-7
-unfolding orderAt
-returns-7 c =
-    let a = c .before .before .before .before .args in
-    ap (orderBy (now (a .s)) (a .at)) (sym (c .enum-told7 .given .1) ∙ c .before .before .mark-at .ensures)
+returns-7 c = at-mark (c .before .before) _ (c .enum-told7 .given .1)
 
 returns-8 : tie.Need-returns-8
-unfolding orderAt
-returns-8 c =
-    let a = c .before .before .before .before .args in
-    ap (orderBy (now (a .s)) (a .at)) (sym (c .enum-told8 .given .1) ∙ c .before .before .mark-at .ensures)
+returns-8 c = at-mark (c .before .before) _ (c .enum-told8 .given .1)
 
 pub order-at-spec : {M : Type 1} → statement M
 order-at-spec =

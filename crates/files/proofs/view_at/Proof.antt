@@ -1,7 +1,8 @@
 -- `files::view_at` meets its contract: each arm is the definition at the mark that was found.
-use mathlib.Core.Path.{sym, ap, _∙_}
+use mathlib.Core.Path.{_≡_, sym, ap, _∙_}
 use denote.Ref.{now}
 use borrow.Author.Needs.{needs}
+use Rattle.files.specs.declared.Mark.{Mark}
 use Rattle.files.specs.Records.{viewBy, viewAt}
 use Rattle.files.proofs.view_at.Statement.{statement}
 use Rattle.files.proofs.view_at.Tie as tie
@@ -36,53 +37,34 @@ view-body-requires c κs = search needs
 enum-told-8 : tie.Need-enum-told-8
 enum-told-8 c = search needs
 
-returns : tie.Need-returns
+-- what stands there, by the mark that was found
+at-mark : (d : tie.After-mark-at) (m : Mark) → d .mark-at .result ≡ m → viewBy (now (d .before .before .args .s)) (d .before .before .args .at) m ≡ viewAt (now (d .before .before .args .s)) (d .before .before .args .at)
 unfolding viewAt
-returns c =
-    let a = c .before .before .before .before .args in
-    ap (viewBy (now (a .s)) (a .at)) (sym (c .enum-told .given .1) ∙ c .before .before .mark-at .ensures)
+at-mark d m e = ap (viewBy (now (d .before .before .args .s)) (d .before .before .args .at)) (sym e ∙ d .mark-at .ensures)
+
+returns : tie.Need-returns
+returns c = at-mark (c .before .before) _ (c .enum-told .given .1)
 
 returns-2 : tie.Need-returns-2
-unfolding viewAt
-returns-2 c =
-    let a = c .before .before .before .before .args in
-    ap (viewBy (now (a .s)) (a .at)) (sym (c .enum-told2 .given .1) ∙ c .before .before .mark-at .ensures)
+returns-2 c = at-mark (c .before .before) _ (c .enum-told2 .given .1)
 
 returns-3 : tie.Need-returns-3
-unfolding viewAt
-returns-3 c =
-    let a = c .before .before .before .before .args in
-    ap (viewBy (now (a .s)) (a .at)) (sym (c .enum-told3 .given .1) ∙ c .before .before .mark-at .ensures)
+returns-3 c = at-mark (c .before .before) _ (c .enum-told3 .given .1)
 
 returns-4 : tie.Need-returns-4
-unfolding viewAt
-returns-4 c =
-    let a = c .before .before .before .before .args in
-    ap (viewBy (now (a .s)) (a .at)) (sym (c .enum-told4 .given .1) ∙ c .before .before .mark-at .ensures)
+returns-4 c = at-mark (c .before .before) _ (c .enum-told4 .given .1)
 
 returns-5 : tie.Need-returns-5
-unfolding viewAt
-returns-5 c =
-    let a = c .before .before .before .before .args in
-    ap (viewBy (now (a .s)) (a .at)) (sym (c .enum-told5 .given .1) ∙ c .before .before .mark-at .ensures)
+returns-5 c = at-mark (c .before .before) _ (c .enum-told5 .given .1)
 
 returns-6 : tie.Need-returns-6
-unfolding viewAt
-returns-6 c =
-    let a = c .before .before .before .before .args in
-    ap (viewBy (now (a .s)) (a .at)) (sym (c .enum-told6 .given .1) ∙ c .before .before .mark-at .ensures)
+returns-6 c = at-mark (c .before .before) _ (c .enum-told6 .given .1)
 
 returns-7 : tie.Need-returns-7
-unfolding viewAt
-returns-7 c =
-    let a = c .before .before .before .before .before .args in
-    c .view-body .ensures ∙ ap (viewBy (now (a .s)) (a .at)) (sym (c .before .enum-told7 .given .1) ∙ c .before .before .before .mark-at .ensures)
+returns-7 c = c .view-body .ensures ∙ at-mark (c .before .before .before) _ (c .before .enum-told7 .given .1)
 
 returns-8 : tie.Need-returns-8
-unfolding viewAt
-returns-8 c =
-    let a = c .before .before .before .before .args in
-    ap (viewBy (now (a .s)) (a .at)) (sym (c .enum-told8 .given .1) ∙ c .before .before .mark-at .ensures)
+returns-8 c = at-mark (c .before .before) _ (c .enum-told8 .given .1)
 
 pub view-at-spec : {M : Type 1} → statement M
 view-at-spec =

@@ -27,62 +27,31 @@ descend-at t = and 1 descend-kinds.ps (is 1 descend-kinds.ps μ-descend t) desce
 abbrev descend-below : ℕ → In 1 descend-kinds.ps
 descend-below t = and 1 descend-kinds.ps (falls 1 descend-kinds.ps _<_ μ-descend t) descend.Pre
 
-descend-returns : (t : ℕ) → descend-lts.Need-returns (
-  gather-reads.Asked,
-  gather-reads.Learnt,
-  descend-below t,
-  descend.Post,
-) (descend-at t) descend.Post
+-- what is known of the two functions that it calls, itself at a level below t
+abbrev known : ℕ → descend-lts.Claims
+known t = (gather-reads.Asked, gather-reads.Learnt, descend-below t, descend.Post)
+
+descend-returns : (t : ℕ) → descend-lts.Need-returns (known t) (descend-at t) descend.Post
 descend-returns t c =
     let a = c .before .args in
     sym (nothing-below-1 (rowIn (now (a .filled))) (a .p) (a .level) (a .made) (a .found) (c .if1 .taken))
 
-descend-sub-gather : (t : ℕ) → descend-lts.Need-sub-gather (
-  gather-reads.Asked,
-  gather-reads.Learnt,
-  descend-below t,
-  descend.Post,
-) (descend-at t) descend.Post
+descend-sub-gather : (t : ℕ) → descend-lts.Need-sub-gather (known t) (descend-at t) descend.Post
 descend-sub-gather t c = omega arith
 
-descend-cast-gather : (t : ℕ) → descend-lts.Need-cast-gather (
-  gather-reads.Asked,
-  gather-reads.Learnt,
-  descend-below t,
-  descend.Post,
-) (descend-at t) descend.Post
+descend-cast-gather : (t : ℕ) → descend-lts.Need-cast-gather (known t) (descend-at t) descend.Post
 descend-cast-gather t c = omega arith
 
-descend-mul-gather : (t : ℕ) → descend-lts.Need-mul-gather (
-  gather-reads.Asked,
-  gather-reads.Learnt,
-  descend-below t,
-  descend.Post,
-) (descend-at t) descend.Post
+descend-mul-gather : (t : ℕ) → descend-lts.Need-mul-gather (known t) (descend-at t) descend.Post
 descend-mul-gather t c = omega arith
 
-descend-element-copy-out-gather : (t : ℕ) → descend-lts.Need-element-copy-out-gather (
-  gather-reads.Asked,
-  gather-reads.Learnt,
-  descend-below t,
-  descend.Post,
-) (descend-at t) descend.Post
+descend-element-copy-out-gather : (t : ℕ) → descend-lts.Need-element-copy-out-gather (known t) (descend-at t) descend.Post
 descend-element-copy-out-gather t c = omega arith
 
-descend-gather-requires : (t : ℕ) → descend-lts.Need-gather-requires (
-  gather-reads.Asked,
-  gather-reads.Learnt,
-  descend-below t,
-  descend.Post,
-) (descend-at t) descend.Post
+descend-gather-requires : (t : ℕ) → descend-lts.Need-gather-requires (known t) (descend-at t) descend.Post
 descend-gather-requires t c κs = search needs
 
-descend-returns-2 : (t : ℕ) → descend-lts.Need-returns-2 (
-  gather-reads.Asked,
-  gather-reads.Learnt,
-  descend-below t,
-  descend.Post,
-) (descend-at t) descend.Post
+descend-returns-2 : (t : ℕ) → descend-lts.Need-returns-2 (known t) (descend-at t) descend.Post
 descend-returns-2 t c =
     let a = c .before .before .before .before .args in
     let g = c .before .gather in
@@ -90,28 +59,13 @@ descend-returns-2 t c =
     ∙ sym (lands-here (rowIn (now (a .filled))) (a .p) (a .level) (a .made) (a .found) (c .before .before .before .if1 .left)
     (ap size (sym (g .ensures)) ∙ size-ones (g .result) (g .ok) ∙ c .if2 .taken))
 
-descend-sub-descend : (t : ℕ) → descend-lts.Need-sub-descend (
-  gather-reads.Asked,
-  gather-reads.Learnt,
-  descend-below t,
-  descend.Post,
-) (descend-at t) descend.Post
+descend-sub-descend : (t : ℕ) → descend-lts.Need-sub-descend (known t) (descend-at t) descend.Post
 descend-sub-descend t c = omega arith
 
-descend-descend-requires : (t : ℕ) → descend-lts.Need-descend-requires (
-  gather-reads.Asked,
-  gather-reads.Learnt,
-  descend-below t,
-  descend.Post,
-) (descend-at t) descend.Post
+descend-descend-requires : (t : ℕ) → descend-lts.Need-descend-requires (known t) (descend-at t) descend.Post
 descend-descend-requires t c κs = omega (arith, c .before .before .before .before .pre)
 
-descend-returns-3 : (t : ℕ) → descend-lts.Need-returns-3 (
-  gather-reads.Asked,
-  gather-reads.Learnt,
-  descend-below t,
-  descend.Post,
-) (descend-at t) descend.Post
+descend-returns-3 : (t : ℕ) → descend-lts.Need-returns-3 (known t) (descend-at t) descend.Post
 descend-returns-3 t c =
     let a = c .before .before .before .before .before .args in
     let g = c .before .before .gather in
@@ -120,12 +74,7 @@ descend-returns-3 t c =
     (λ e. c .before .if2 .left (sym (ap size (sym (g .ensures)) ∙ size-ones (g .result) (g .ok)) ∙ e)))
 
 pub +descend-spec : {M : Type 1} → statement M
-+descend-spec = close μ-descend λ t. descend-lts.spec (
-  gather-reads.Asked,
-  gather-reads.Learnt,
-  descend-below t,
-  descend.Post,
-)
++descend-spec = close μ-descend λ t. descend-lts.spec (known t)
     (descend-at t)
     descend.Post
     (descend-returns t)
