@@ -1,7 +1,8 @@
 -- `files::header_of` meets its contract: each arm is the definition at the mark that was found.
-use mathlib.Core.Path.{sym, ap, _∙_}
+use mathlib.Core.Path.{_≡_, sym, ap, _∙_}
 use denote.Ref.{now}
 use borrow.Author.Needs.{needs}
+use Rattle.files.specs.declared.Mark.{Mark}
 use Rattle.files.specs.Records.{headerBy, headerOf}
 use Rattle.files.proofs.header_of.Statement.{statement}
 use Rattle.files.proofs.header_of.Tie as tie
@@ -36,53 +37,34 @@ enum-told-7 c = search needs
 enum-told-8 : tie.Need-enum-told-8
 enum-told-8 c = search needs
 
-returns : tie.Need-returns
+-- the header, by the mark that was found
+at-mark : (d : tie.After-mark-at) (m : Mark) → d .mark-at .result ≡ m → headerBy (now (d .before .before .args .s)) m ≡ headerOf (now (d .before .before .args .s))
 unfolding headerOf
-returns c =
-    let a = c .before .before .before .before .args in
-    ap (headerBy (now (a .s))) (sym (c .enum-told .given .1) ∙ c .before .before .mark-at .ensures)
+at-mark d m e = ap (headerBy (now (d .before .before .args .s))) (sym e ∙ d .mark-at .ensures)
+
+returns : tie.Need-returns
+returns c = at-mark (c .before .before) _ (c .enum-told .given .1)
 
 returns-2 : tie.Need-returns-2
-unfolding headerOf
-returns-2 c =
-    let a = c .before .before .before .before .before .args in
-    c .header-body .ensures ∙ ap (headerBy (now (a .s))) (sym (c .before .enum-told2 .given .1) ∙ c .before .before .before .mark-at .ensures)
+returns-2 c = c .header-body .ensures ∙ at-mark (c .before .before .before) _ (c .before .enum-told2 .given .1)
 
 returns-3 : tie.Need-returns-3
-unfolding headerOf
-returns-3 c =
-    let a = c .before .before .before .before .args in
-    ap (headerBy (now (a .s))) (sym (c .enum-told3 .given .1) ∙ c .before .before .mark-at .ensures)
+returns-3 c = at-mark (c .before .before) _ (c .enum-told3 .given .1)
 
 returns-4 : tie.Need-returns-4
-unfolding headerOf
-returns-4 c =
-    let a = c .before .before .before .before .args in
-    ap (headerBy (now (a .s))) (sym (c .enum-told4 .given .1) ∙ c .before .before .mark-at .ensures)
+returns-4 c = at-mark (c .before .before) _ (c .enum-told4 .given .1)
 
 returns-5 : tie.Need-returns-5
-unfolding headerOf
-returns-5 c =
-    let a = c .before .before .before .before .args in
-    ap (headerBy (now (a .s))) (sym (c .enum-told5 .given .1) ∙ c .before .before .mark-at .ensures)
+returns-5 c = at-mark (c .before .before) _ (c .enum-told5 .given .1)
 
 returns-6 : tie.Need-returns-6
-unfolding headerOf
-returns-6 c =
-    let a = c .before .before .before .before .args in
-    ap (headerBy (now (a .s))) (sym (c .enum-told6 .given .1) ∙ c .before .before .mark-at .ensures)
+returns-6 c = at-mark (c .before .before) _ (c .enum-told6 .given .1)
 
 returns-7 : tie.Need-returns-7
-unfolding headerOf
-returns-7 c =
-    let a = c .before .before .before .before .args in
-    ap (headerBy (now (a .s))) (sym (c .enum-told7 .given .1) ∙ c .before .before .mark-at .ensures)
+returns-7 c = at-mark (c .before .before) _ (c .enum-told7 .given .1)
 
 returns-8 : tie.Need-returns-8
-unfolding headerOf
-returns-8 c =
-    let a = c .before .before .before .before .args in
-    ap (headerBy (now (a .s))) (sym (c .enum-told8 .given .1) ∙ c .before .before .mark-at .ensures)
+returns-8 c = at-mark (c .before .before) _ (c .enum-told8 .given .1)
 
 pub header-of-spec : {M : Type 1} → statement M
 header-of-spec =

@@ -1,7 +1,9 @@
 -- `enter` meets its contract: refused as what was found says, then the stage.
 use mathlib.Core.Path.{_≡_, sym, ap, _∙_}
+use Prim.Native.Nat.{ℕ}
 use Rattle.rules.specs.declared.Stage.{Stage}
 use Rattle.rules.specs.declared.Process.{Process}
+use Rattle.rules.specs.declared.Machine.{Machine}
 use Rattle.rules.specs.State.{processOf, stageOf}
 use Rattle.rules.specs.Calls.{enterAt, enterOf}
 use Rattle.rules.specs.Statements.{Valid}
@@ -23,9 +25,28 @@ enum-known-process c = search needs
 enum-told : tie.Need-enum-told
 enum-told c = search needs
 
--- the process was found
-valid : (c : tie.After-known-told2) → Valid (c .before .before .before .before .before .before .before .before .args .t1) (c .before .before .before .before .before .before .before .before .args .p) × (processOf (c .before .before .before .before .before .before .before .before .args .t1) (c .before .before .before .before .before .before .before .before .args .p) ≡ c .before .process .given .0 .0)
-valid c = found-valid _ _ _ (sym (c .before .before .before .find .ensures) ∙ c .before .process .given .1)
+-- Where the process was found: the machine, the process and the value at entry.
+abbrev Here : Type 0
+Here = tie.After-known-told2
+
+abbrev Ms : Here → Machine
+Ms d = d .before .before .before .before .before .before .before .before .args .t1
+
+abbrev P : Here → ℕ
+P d = d .before .before .before .before .before .before .before .before .args .p
+
+abbrev Given : Here → ℕ
+Given d = d .before .before .before .before .before .before .before .before .args .v
+
+valid : (d : Here) → Valid (Ms d) (P d) × (processOf (Ms d) (P d) ≡ d .before .process .given .0 .0)
+valid d = found-valid _ _ _ (sym (d .before .before .before .find .ensures) ∙ d .before .process .given .1)
+
+-- the call goes by its stage
+by-stage : (d : Here) (s : Stage) → d .before .process .given .0 .0 .stage ≡ s → enterAt s (Ms d) (P d) (Given d) ≡ enterOf (Ms d) (P d) (Given d)
+unfolding enterOf
+by-stage d s e =
+    sym (goes-on (Ms d) (P d) (valid d .0) (enterAt (stageOf (Ms d) (P d)) (Ms d) (P d) (Given d))
+    ∙ ap (λ (s : Stage). enterAt s (Ms d) (P d) (Given d)) (ap (λ (Q : Process). Q .stage) (valid d .1) ∙ e))
 
 sub-t18 : tie.Need-sub-t18
 sub-t18 c = valid (c .before .before) .0 .low
@@ -56,36 +77,16 @@ returns c =
     (sym (c .before .before .before .find .ensures) ∙ c .before .answer .given .1))
 
 returns-2 : tie.Need-returns-2
-unfolding enterOf
-returns-2 c =
-    let a = c .before .before .before .before .before .before .before .before .before .before .args in
-    let v = valid (c .before .before) in
-    sym (goes-on (a .t1) (a .p) (v .0) (enterAt (stageOf (a .t1) (a .p)) (a .t1) (a .p) (a .v))
-    ∙ ap (λ (s : Stage). enterAt s (a .t1) (a .p) (a .v)) (ap (λ (P : Process). P .stage) (v .1) ∙ c .enum-told .given .1))
+returns-2 c = by-stage (c .before .before) _ (c .enum-told .given .1)
 
 returns-3 : tie.Need-returns-3
-unfolding enterOf
-returns-3 c =
-    let a = c .before .before .before .before .before .before .before .before .before .before .args in
-    let v = valid (c .before .before) in
-    sym (goes-on (a .t1) (a .p) (v .0) (enterAt (stageOf (a .t1) (a .p)) (a .t1) (a .p) (a .v))
-    ∙ ap (λ (s : Stage). enterAt s (a .t1) (a .p) (a .v)) (ap (λ (P : Process). P .stage) (v .1) ∙ c .enum-told2 .given .1))
+returns-3 c = by-stage (c .before .before) _ (c .enum-told2 .given .1)
 
 returns-4 : tie.Need-returns-4
-unfolding enterOf
-returns-4 c =
-    let a = c .before .before .before .before .before .before .before .before .before .before .args in
-    let v = valid (c .before .before) in
-    sym (goes-on (a .t1) (a .p) (v .0) (enterAt (stageOf (a .t1) (a .p)) (a .t1) (a .p) (a .v))
-    ∙ ap (λ (s : Stage). enterAt s (a .t1) (a .p) (a .v)) (ap (λ (P : Process). P .stage) (v .1) ∙ c .enum-told3 .given .1))
+returns-4 c = by-stage (c .before .before) _ (c .enum-told3 .given .1)
 
 returns-5 : tie.Need-returns-5
-unfolding enterOf
-returns-5 c =
-    let a = c .before .before .before .before .before .before .before .before .before .before .args in
-    let v = valid (c .before .before) in
-    sym (goes-on (a .t1) (a .p) (v .0) (enterAt (stageOf (a .t1) (a .p)) (a .t1) (a .p) (a .v))
-    ∙ ap (λ (s : Stage). enterAt s (a .t1) (a .p) (a .v)) (ap (λ (P : Process). P .stage) (v .1) ∙ c .enum-told4 .given .1))
+returns-5 c = by-stage (c .before .before) _ (c .enum-told4 .given .1)
 
 pub enter-spec : {M : Type 1} → statement M
 enter-spec =
