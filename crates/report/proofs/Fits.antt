@@ -22,7 +22,7 @@ use Rattle.orders.specs.declared.Replayed.{Replayed}
 use Rattle.orders.specs.Replays.{replayOf}
 use Rattle.views.specs.declared.FileVerdict.{FileVerdict}
 use Rattle.views.specs.Verdict.{verdictOf}
-use Rattle.report.specs.Lines.{decimal, field, line, tooLong, verdict, verdictLine, verdictText, run, p, participants, stageWord, comma, pair}
+use Rattle.report.specs.Lines.{decimal, field, fields, line, tooLong, verdict, verdictLine, verdictText, run, p, participants, stageWord, comma, pair}
 use Rattle.report.specs.Lines.{pairsFrom, view, sightLine, runLine, takesPart, partaking, lastLine, replayLines, replayText}
 use Rattle.report.specs.Stores.{Room, Stored, over}
 use Rattle.report.proofs.Digits.{two-digits, ten-digits, twenty-digits}
@@ -37,6 +37,19 @@ pub line-length : (xs : List (List ℕ)) {r : ℕ} → Short xs r → length (li
 line-length [] end = omega arith
 line-length (x ∷ xs) (part h s) = omega (arith, length-append x (line xs), line-length xs s)
 
+-- numbers by the most that each of them can have, its space among it
+pub data Few : List ℕ → ℕ → Type 0 where
+  none : Few [] 0
+  next : {n : ℕ} {ns : List ℕ} {k r : ℕ} → length (field n) ≤ k → Few ns r → Few (n ∷ ns) (k + r)
+
+pub fields-length : (ns : List ℕ) {r : ℕ} → Few ns r → length (fields ns) ≤ r
+fields-length [] none = omega arith
+fields-length (n ∷ ns) (next h s) = omega (arith, length-append (field n) (fields ns), fields-length ns s)
+
+-- a line of a word and numbers
+pub words-length : (w ns : List ℕ) {k r : ℕ} → length w ≤ k → Few ns r → length (line (w ∷ fields ns ∷ [])) ≤ k + (r + 1)
+words-length w ns h s = line-length (w ∷ fields ns ∷ []) (part h (part (fields-length ns s) end))
+
 -- a field of a 32-bit and of a 64-bit number
 pub word-field : (n : ℕ) → n < 2 ^ 32 → length (field n) ≤ 11
 word-field n h = omega (arith, ten-digits n (omega (arith, h)))
@@ -48,9 +61,8 @@ pub verdict-length : (v : FileVerdict) → v .number < 2 ^ 32 → v .place < 2 ^
 unfolding verdictLine
 verdict-length v a b c d =
     let word : length verdict ≤ 7 = omega arith in
-    line-length (verdict ∷ field (v .number) ∷ field (v .place) ∷ field (v .i) ∷ field (v .j) ∷ [])
-    (part word
-    (part (word-field (v .number) a) (part (wide-field (v .place) b) (part (word-field (v .i) c) (part (word-field (v .j) d) end)))))
+    words-length verdict (v .number ∷ v .place ∷ v .i ∷ v .j ∷ []) word
+    (next (word-field (v .number) a) (next (wide-field (v .place) b) (next (word-field (v .i) c) (next (word-field (v .j) d) none))))
 
 -- a pair has at most a comma, two digits, a colon and ten digits
 pair-length : (later : Bool) (i v : ℕ) → i < 100 → v < 2 ^ 32 → length (pair later i v) ≤ 14
@@ -132,17 +144,16 @@ pub run-length : (r : Replayed) → r .place < 2 ^ 64 → r .taken < 2 ^ 32 → 
 unfolding runLine
 run-length r a b c d =
     let word : length run ≤ 3 = omega arith in
-    line-length (run ∷ field (numberOf (r .answer)) ∷ field (r .place) ∷ field (r .taken) ∷ field (r .accesses) ∷ field (r .refused) ∷ [])
-    (part word
-    (part (word-field (numberOf (r .answer)) (number-small (r .answer)))
-    (part (wide-field (r .place) a) (part (word-field (r .taken) b) (part (word-field (r .accesses) c) (part (word-field (r .refused) d) end))))))
+    words-length run (numberOf (r .answer) ∷ r .place ∷ r .taken ∷ r .accesses ∷ r .refused ∷ []) word
+    (next (word-field (numberOf (r .answer)) (number-small (r .answer)))
+    (next (wide-field (r .place) a) (next (word-field (r .taken) b) (next (word-field (r .accesses) c) (next (word-field (r .refused) d) none)))))
 
 pub last-length : (m : Machine) → m .n ≤ 32 → length (lastLine m) ≤ 16
 unfolding lastLine partaking
 last-length m h =
     let word : length participants ≤ 12 = omega arith in
     let k : partaking m < 100 = omega (arith, count-le (λ i. takesPart (stageOf m i)) (m .n)) in
-    line-length (participants ∷ field (partaking m) ∷ []) (part word (part (small-field (partaking m) k) end))
+    words-length participants (partaking m ∷ []) word (next (small-field (partaking m) k) none)
 
 -- the text of an input that is taken, and of one that is not
 pub verdict-short : (s : List ℕ) → length s ≤ 65535 → verdictText s ≡ verdictLine (verdictOf s)

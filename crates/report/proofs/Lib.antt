@@ -2,6 +2,7 @@
 pub mod Stores
 pub mod Digits
 pub mod Fits
+pub mod Fields
 pub mod Pairs
 pub mod Processes
 pub mod Determined

@@ -32,6 +32,10 @@ decimal n = digitsIn n n
 abbrev pub field : ℕ → List ℕ
 field n = 32 ∷ decimal n
 
+abbrev pub fields : List ℕ → List ℕ
+fields [] = []
+fields (n ∷ ns) = field n ++ fields ns
+
 -- a line: its parts, and the byte that ends it
 abbrev pub line : List (List ℕ) → List ℕ
 line [] = 10 ∷ []
@@ -92,7 +96,7 @@ processLine m i = sightLine i (looked m (stageOf m i))
 -- "Line 1: `run`, number, place, orders taken, accesses, orders refused."
 unfoldable pub runLine : Replayed → List ℕ
 runLine r =
-    line (run ∷ field (numberOf (r .answer)) ∷ field (r .place) ∷ field (r .taken) ∷ field (r .accesses) ∷ field (r .refused) ∷ [])
+    line (run ∷ fields (numberOf (r .answer) ∷ r .place ∷ r .taken ∷ r .accesses ∷ r .refused ∷ []) ∷ [])
 
 -- "Last: `participants` and how many processes have entered."
 abbrev pub takesPart : Stage → Bool
@@ -102,14 +106,14 @@ unfoldable pub partaking : Machine → ℕ
 partaking m = count (λ i. takesPart (stageOf m i)) (m .n)
 
 unfoldable pub lastLine : Machine → List ℕ
-lastLine m = line (participants ∷ field (partaking m) ∷ [])
+lastLine m = line (participants ∷ fields (partaking m ∷ []) ∷ [])
 
 unfoldable pub replayLines : Replayed → List ℕ
 replayLines r = runLine r ++ (joined 1 (r .machine .n) (processLine (r .machine)) ++ lastLine (r .machine))
 
 -- "Verdict prints one line: `verdict`, number, place, i, j (0 where none)."
 unfoldable pub verdictLine : FileVerdict → List ℕ
-verdictLine v = line (verdict ∷ field (v .number) ∷ field (v .place) ∷ field (v .i) ∷ field (v .j) ∷ [])
+verdictLine v = line (verdict ∷ fields (v .number ∷ v .place ∷ v .i ∷ v .j ∷ []) ∷ [])
 
 -- "Both programs take at most 65,535 bytes; for more they print `too long` and nothing else. Replay uses a budget of 65,535 orders."
 unfoldable pub replayText : List ℕ → List ℕ

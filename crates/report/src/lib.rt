@@ -4,7 +4,7 @@ ghost use mathlib.Core.List.{[], _∷_};
 ghost use Prim.Native.Nat.{_+_, _*_, _≤_};
 ghost use lib.ListN.{length};
 ghost use mathlib.Core.Bool.{false};
-ghost use Rattle.report.specs.Lines.{decimal, field, verdictLine, verdictText, stageWord, comma, pair, pairsFrom, view, sightLine};
+ghost use Rattle.report.specs.Lines.{decimal, field, fields, line, verdictLine, verdictText, stageWord, comma, pair, pairsFrom, view, sightLine};
 ghost use Rattle.report.specs.Lines.{processLine, takesPart, partaking, lastLine, runLine, replayLines, replayText};
 ghost use Rattle.sets.specs.Sets.{tick};
 ghost use Rattle.rules.specs.Shape.{Shaped};
@@ -60,17 +60,37 @@ fn put_field(out: &mut [u8], at: usize, n: usize) -> usize
     put_decimal(out, place, n)
 }
 
+// Numbers, each after a space.
+fn put_fields(out: &mut [u8], at: usize, numbers: &[usize]) -> usize
+    requires { ⌜ Room (now out) at (fields (now numbers)) ⌝ }
+    ensures { λ r. ⌜ Stored (now (out .entry)) at (fields (now (numbers .entry))) (now (out .exit)) r ⌝ }
+{
+    let mut place = at;
+    let mut i: usize = 0;
+    while i < numbers.len() {
+        place = put_field(out, place, numbers[i]);
+        i += 1;
+    }
+    place
+}
+
+// A line of a word and numbers.
+fn put_line(out: &mut [u8], at: usize, word: &[u8], numbers: &[usize]) -> usize
+    requires { ⌜ Room (now out) at (line (now word ∷ fields (now numbers) ∷ [])) ⌝ }
+    ensures { λ r. ⌜ Stored (now (out .entry)) at (line (now (word .entry) ∷ fields (now (numbers .entry)) ∷ [])) (now (out .exit)) r ⌝ }
+{
+    let a = put_word(out, at, word);
+    let b = put_fields(out, a, numbers);
+    put_byte(out, b, 10)
+}
+
 // The verdict's line.
 fn put_verdict(out: &mut [u8], at: usize, v: FileVerdict) -> usize
     requires { ⌜ Room (now out) at (verdictLine v) ⌝ }
     ensures { λ r. ⌜ Stored (now (out .entry)) at (verdictLine v) (now (out .exit)) r ⌝ }
 {
-    let a = put_word(out, at, b"verdict");
-    let b = put_field(out, a, v.number as usize);
-    let c = put_field(out, b, v.place);
-    let d = put_field(out, c, v.i as usize);
-    let e = put_field(out, d, v.j as usize);
-    put_byte(out, e, 10)
+    let numbers = [v.number as usize, v.place, v.i as usize, v.j as usize];
+    put_line(out, at, b"verdict", &numbers)
 }
 
 // What the program `verdict` prints of its input; answers how many bytes that is.
@@ -224,9 +244,8 @@ fn put_last(out: &mut [u8], at: usize, m: Machine) -> usize
     requires { ⌜ Room (now out) at (lastLine m) × (m .n ≤ 32) ⌝ }
     ensures { λ r. ⌜ Stored (now (out .entry)) at (lastLine m) (now (out .exit)) r ⌝ }
 {
-    let a = put_word(out, at, b"participants");
-    let b = put_field(out, a, partaking(m));
-    put_byte(out, b, 10)
+    let numbers = [partaking(m)];
+    put_line(out, at, b"participants", &numbers)
 }
 
 // The first line.
@@ -235,13 +254,15 @@ fn put_run(out: &mut [u8], at: usize, r: Replayed) -> usize
     ensures { λ q. ⌜ Stored (now (out .entry)) at (runLine r) (now (out .exit)) q ⌝ }
 {
     let answer = r.answer;
-    let a = put_word(out, at, b"run");
-    let b = put_field(out, a, files::number(answer) as usize);
-    let c = put_field(out, b, r.place);
-    let d = put_field(out, c, r.taken as usize);
-    let e = put_field(out, d, r.accesses as usize);
-    let f = put_field(out, e, r.refused as usize);
-    put_byte(out, f, 10)
+    let number = files::number(answer) as usize;
+    let numbers = [
+        number,
+        r.place,
+        r.taken as usize,
+        r.accesses as usize,
+        r.refused as usize,
+    ];
+    put_line(out, at, b"run", &numbers)
 }
 
 // The lines of a replay.

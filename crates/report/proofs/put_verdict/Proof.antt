@@ -1,134 +1,44 @@
--- `report::put_verdict` meets its contract: the word, four fields, the line's end.
-use Prim.Native.Nat.{ℕ}
-use mathlib.Core.Path.{_∙_}
-use mathlib.Core.List.{List, [], _∷_, _++_}
-use Rattle.views.specs.declared.FileVerdict.{FileVerdict}
-use Rattle.report.specs.Lines.{field, verdict, verdictLine}
-use Rattle.report.specs.Stores.{Room}
-use Rattle.report.proofs.Stores.{room-first, room-rest, then}
+-- `report::put_verdict` meets its contract: the word and four numbers.
+use Rattle.report.specs.Lines.{verdictLine}
 use borrow.Author.Needs.{needs}
 use Rattle.report.proofs.put_verdict.Statement.{statement}
 use Rattle.report.proofs.put_verdict.Tie as tie
 
--- what is left after each part
-abbrev left-5 : FileVerdict → List ℕ
-left-5 v = 10 ∷ []
+cast-t6 : tie.Need-cast-t6
+cast-t6 c = search needs
 
-abbrev left-4 : FileVerdict → List ℕ
-left-4 v = field (v .j) ++ left-5 v
+cast-t7 : tie.Need-cast-t7
+cast-t7 c = search needs
 
-abbrev left-3 : FileVerdict → List ℕ
-left-3 v = field (v .i) ++ left-4 v
+cast-t8 : tie.Need-cast-t8
+cast-t8 c = search needs
 
-abbrev left-2 : FileVerdict → List ℕ
-left-2 v = field (v .place) ++ left-3 v
+slice-aggregate-put-line : tie.Need-slice-aggregate-put-line
+slice-aggregate-put-line c = search needs
 
-abbrev left-1 : FileVerdict → List ℕ
-left-1 v = field (v .number) ++ left-2 v
+slice-aggregate-put-line-2 : tie.Need-slice-aggregate-put-line-2
+slice-aggregate-put-line-2 c = search needs
 
--- the entry, seen from after each part
-abbrev entry-1 : tie.After-put-word → tie.Start
-entry-1 c = c .before .before .before .before
-
-abbrev entry-2 : tie.After-put-field → tie.Start
-entry-2 c = entry-1 (c .before .before .before .before .before)
-
-abbrev entry-3 : tie.After-put-field2 → tie.Start
-entry-3 c = entry-2 (c .before .before .before .before)
-
-abbrev entry-4 : tie.After-put-field3 → tie.Start
-entry-4 c = entry-3 (c .before .before .before .before .before)
-
-abbrev entry-5 : tie.After-put-field4 → tie.Start
-entry-5 c = entry-4 (c .before .before .before .before .before)
-
-room-1 : (c : tie.After-put-word) → Room (c .put-word .last .0) (c .put-word .result) (left-1 (entry-1 c .args .v))
+put-line-requires : tie.Need-put-line-requires
 unfolding verdictLine
-room-1 c = room-rest (c .put-word .ensures) (entry-1 c .pre)
-
-room-2 : (c : tie.After-put-field) → Room (c .put-field .last .0) (c .put-field .result) (left-2 (entry-2 c .args .v))
-room-2 c = room-rest (c .put-field .ensures) (room-1 (c .before .before .before .before .before))
-
-room-3 : (c : tie.After-put-field2) → Room (c .put-field2 .last .0) (c .put-field2 .result) (left-3 (entry-3 c .args .v))
-room-3 c = room-rest (c .put-field2 .ensures) (room-2 (c .before .before .before .before))
-
-room-4 : (c : tie.After-put-field3) → Room (c .put-field3 .last .0) (c .put-field3 .result) (left-4 (entry-4 c .args .v))
-room-4 c = room-rest (c .put-field3 .ensures) (room-3 (c .before .before .before .before .before))
-
-room-5 : (c : tie.After-put-field4) → Room (c .put-field4 .last .0) (c .put-field4 .result) (left-5 (entry-5 c .args .v))
-room-5 c = room-rest (c .put-field4 .ensures) (room-4 (c .before .before .before .before .before))
-
-slice-aggregate-put-word : tie.Need-slice-aggregate-put-word
-slice-aggregate-put-word c = search needs
-
-put-word-requires : tie.Need-put-word-requires
-unfolding verdictLine
-put-word-requires c κs = let a = c .before .before .before in room-first (verdict) (left-1 (a .args .v)) (a .pre)
-
-cast-put-field : tie.Need-cast-put-field
-cast-put-field c = search needs
-
-put-field-requires : tie.Need-put-field-requires
-put-field-requires c κs = let d = c .before .before .before .before in
-    room-first (field ((entry-1 d .args .v) .number)) (left-2 (entry-1 d .args .v)) (room-1 d)
-
-put-field-requires-2 : tie.Need-put-field-requires-2
-put-field-requires-2 c κs = let d = c .before .before .before in
-    room-first (field ((entry-2 d .args .v) .place)) (left-3 (entry-2 d .args .v)) (room-2 d)
-
-cast-put-field-2 : tie.Need-cast-put-field-2
-cast-put-field-2 c = search needs
-
-put-field-requires-3 : tie.Need-put-field-requires-3
-put-field-requires-3 c κs = let d = c .before .before .before .before in
-    room-first (field ((entry-3 d .args .v) .i)) (left-4 (entry-3 d .args .v)) (room-3 d)
-
-cast-put-field-3 : tie.Need-cast-put-field-3
-cast-put-field-3 c = search needs
-
-put-field-requires-4 : tie.Need-put-field-requires-4
-put-field-requires-4 c κs = let d = c .before .before .before .before in
-    room-first (field ((entry-4 d .args .v) .j)) (left-5 (entry-4 d .args .v)) (room-4 d)
-
-put-byte-requires : tie.Need-put-byte-requires
-put-byte-requires c κs = let d = c .before .before .before in room-5 d
+put-line-requires c κs = c .before .before .before .before .before .before .before .pre
 
 same-length : tie.Need-same-length
-same-length c =
-    let d6 = c .before .before in
-    let d5 = d6 .before .before .before .before in
-    let d4 = d5 .before .before .before .before .before in
-    let d3 = d4 .before .before .before .before .before in
-    let d2 = d3 .before .before .before .before in
-    let d1 = d2 .before .before .before .before .before in
-    d6 .put-byte .kept .0 ∙ d5 .put-field4 .kept .0 ∙ d4 .put-field3 .kept .0 ∙ d3 .put-field2 .kept .0 ∙ d2 .put-field .kept .0
-    ∙ d1 .put-word .kept .0
+same-length c = search needs
 
 returns : tie.Need-returns
 unfolding verdictLine
-returns c =
-    let d6 = c .before .before in
-    let d5 = d6 .before .before .before .before in
-    let d4 = d5 .before .before .before .before .before in
-    let d3 = d4 .before .before .before .before .before in
-    let d2 = d3 .before .before .before .before in
-    let d1 = d2 .before .before .before .before .before in
-    then (d1 .put-word .ensures) (then (d2 .put-field .ensures)
-    (then (d3 .put-field2 .ensures) (then (d4 .put-field3 .ensures) (then (d5 .put-field4 .ensures) (d6 .put-byte .ensures)))))
+returns c = c .before .before .put-line .ensures
 
 pub put-verdict-spec : {M : Type 1} → statement M
 put-verdict-spec =
     tie.close
     (tie.spec
-    slice-aggregate-put-word
-    put-word-requires
-    cast-put-field
-    put-field-requires
-    put-field-requires-2
-    cast-put-field-2
-    put-field-requires-3
-    cast-put-field-3
-    put-field-requires-4
-    put-byte-requires
+    cast-t6
+    cast-t7
+    cast-t8
+    slice-aggregate-put-line
+    slice-aggregate-put-line-2
+    put-line-requires
     same-length
     returns)
