@@ -7,7 +7,7 @@ use Rattle.rules.specs.Examples.{table as machineTable, passes as runPasses, al
 use Rattle.rules.specs.Examples as Runs
 use Rattle.rules.proofs.Laws.Examples.{every-row-passes}
 use Rattle.files.specs.ViewFile.{joined}
-use Rattle.views.specs.Findings.{agree, inside, breaks, ofOne, ofPair, findings, checkOf}
+use Rattle.findings.specs.Findings.{agree, inside, breaks, ofOne, ofPair, findings, checkOf}
 use Rattle.examples.specs.Table.{Row, runs, withPairs, withViews, allPass, p9, p10, EveryExample}
 
 runs-then : (rs : List Runs.Row) (more : List Row) → allPass (map runs rs ++ more) ≡ (allRunsPass rs && allPass more)

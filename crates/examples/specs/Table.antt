@@ -11,7 +11,7 @@ use Rattle.rules.specs.Examples.{Seen, _∶_, table as machineTable, passes as 
 use Rattle.rules.specs.Examples as Runs
 use Rattle.files.specs.declared.Views.{Views}
 use Rattle.files.specs.Views.{cell, noneOf}
-use Rattle.views.specs.Findings.{findingNumber, checkOf}
+use Rattle.findings.specs.Findings.{findingNumber, checkOf}
 
 -- a view as it is written in document 01: a process and its pairs
 pub data Given : Type 0 where

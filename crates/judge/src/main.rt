@@ -1,6 +1,6 @@
 // Runs the compiled reader and checker on document 01's P9 and P10 and some other view files, and prints each verdict: number, place, i, j.
+use findings::FileVerdict;
 use libc::STDOUT_FILENO;
-use views::FileVerdict;
 
 fn field(n: u64) {
     io::write_all(STDOUT_FILENO, b" ");

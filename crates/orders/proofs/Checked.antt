@@ -29,13 +29,13 @@ use Rattle.files.specs.Views.{seenBy}
 use Rattle.files.specs.ViewFile.{readOf, readWhole}
 use Rattle.files.specs.Promises.{Bytes}
 use Rattle.files.proofs.Ranges.{word-below}
-use Rattle.views.specs.declared.Finding.{Finding}
-use Rattle.views.specs.Findings.{found, checkOf}
-use Rattle.views.specs.Verdict.{judged}
-use Rattle.views.specs.Properties as properties
-use Rattle.views.proofs.Accepts.{accepts-exactly}
-use Rattle.views.proofs.FirstBreak.{yes-is-no-finding}
-use Rattle.views.proofs.Verdicts.{read-then-checked}
+use Rattle.findings.specs.declared.Finding.{Finding}
+use Rattle.findings.specs.Findings.{found, checkOf}
+use Rattle.findings.specs.Verdict.{judged}
+use Rattle.findings.specs.Properties as properties
+use Rattle.findings.proofs.Accepts.{accepts-exactly}
+use Rattle.findings.proofs.FirstBreak.{yes-is-no-finding}
+use Rattle.findings.proofs.Verdicts.{read-then-checked}
 use Rattle.orders.specs.Replays.{Orders, ended, onward, ordersFrom, replayOf, callsBy, callsOf, processesOf}
 use Rattle.orders.specs.OrderFile.{WordCalls}
 use Rattle.orders.specs.Writes.{viewsOf, bytesOf}

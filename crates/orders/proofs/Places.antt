@@ -17,7 +17,7 @@ use Rattle.rules.proofs.Laws.Shape.{shaped-record}
 use Rattle.files.specs.Records.{wordBytes}
 use Rattle.files.specs.ViewFile.{joined}
 use Rattle.files.proofs.Bytes.{joined-at}
-use Rattle.views.proofs.First.{joined-next}
+use Rattle.findings.proofs.First.{joined-next}
 use Rattle.orders.specs.Places.{put, memberBytes, recordBytes, stageBytes, partOf, recordLength, Lands}
 
 pub put-append : (b : List ℕ) (at : ℕ) (x y : List ℕ) → put b at (x ++ y) ≡ put (put b at x) (at + length x) y

@@ -24,9 +24,9 @@ use Rattle.files.specs.Records.{headerOf}
 use Rattle.files.specs.Views.{owns, seenBy, valueBy}
 use Rattle.files.specs.ViewFile.{readOf, readWhole}
 use Rattle.files.specs.Promises.{Bytes}
-use Rattle.views.specs.declared.Finding.{Finding}
-use Rattle.views.specs.Findings.{found, checkOf}
-use Rattle.views.specs.Verdict.{judged, verdictOf}
+use Rattle.findings.specs.declared.Finding.{Finding}
+use Rattle.findings.specs.Findings.{found, checkOf}
+use Rattle.findings.specs.Verdict.{judged, verdictOf}
 use Rattle.orders.specs.declared.Replayed.{Replayed}
 use Rattle.orders.specs.Replays.{replayed, replayOf, callsOf, processesOf, noReplay}
 use Rattle.orders.specs.Writes.{writeNumber, viewsOf, bytesOf, writeOf, bufferOf}

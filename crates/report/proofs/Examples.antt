@@ -21,8 +21,8 @@ use Rattle.files.specs.declared.Header.{Header}
 use Rattle.files.specs.declared.Order.{Order}
 use Rattle.files.specs.Records.{markOf, markAt, headerOf, orderAt, viewAt}
 use Rattle.files.specs.ViewFile.{joined, testedAt, valuesRead, readFrom, readOf}
-use Rattle.views.specs.Findings.{agree, inside, breaks, ofOne, ofPair, findings, checkOf}
-use Rattle.views.specs.Verdict.{verdictOf}
+use Rattle.findings.specs.Findings.{agree, inside, breaks, ofOne, ofPair, findings, checkOf}
+use Rattle.findings.specs.Verdict.{verdictOf}
 use Rattle.orders.specs.declared.Counts.{Counts}
 use Rattle.orders.specs.declared.Replayed.{Replayed}
 use Rattle.orders.specs.Replays.{onward, replayBy, replayOf, ordersFrom}

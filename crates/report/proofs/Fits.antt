@@ -20,8 +20,8 @@ use Rattle.files.specs.declared.FileAnswer.the-variants.{BudgetSpent, NoProcess
 use Rattle.files.specs.Numbers.{numberOf}
 use Rattle.orders.specs.declared.Replayed.{Replayed}
 use Rattle.orders.specs.Replays.{replayOf}
-use Rattle.views.specs.declared.FileVerdict.{FileVerdict}
-use Rattle.views.specs.Verdict.{verdictOf}
+use Rattle.findings.specs.declared.FileVerdict.{FileVerdict}
+use Rattle.findings.specs.Verdict.{verdictOf}
 use Rattle.report.specs.Lines.{decimal, field, fields, line, tooLong, verdict, verdictLine, verdictText, run, p, participants, stageWord, comma, pair}
 use Rattle.report.specs.Lines.{pairsFrom, view, sightLine, runLine, takesPart, partaking, lastLine, replayLines, replayText}
 use Rattle.report.specs.Stores.{Room, Stored, over}

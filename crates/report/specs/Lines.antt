@@ -15,8 +15,8 @@ use Rattle.rules.specs.State.{stageOf, entered}
 use Rattle.rules.specs.Calls.{looked}
 use Rattle.files.specs.Numbers.{numberOf}
 use Rattle.files.specs.ViewFile.{joined}
-use Rattle.views.specs.declared.FileVerdict.{FileVerdict}
-use Rattle.views.specs.Verdict.{verdictOf}
+use Rattle.findings.specs.declared.FileVerdict.{FileVerdict}
+use Rattle.findings.specs.Verdict.{verdictOf}
 use Rattle.orders.specs.declared.Replayed.{Replayed}
 use Rattle.orders.specs.Replays.{replayOf}
 

@@ -10,12 +10,12 @@ ghost use Rattle.sets.specs.Sets.{tick};
 ghost use Rattle.rules.specs.Shape.{Shaped};
 ghost use Rattle.files.specs.ViewFile.{joined};
 ghost use Rattle.report.specs.Stores.{Room, Stored, over};
+use findings::FileVerdict;
 use orders::Replayed;
 use rules::Machine;
 use rules::Sight;
 use rules::Stage;
 use rules::Standing;
-use views::FileVerdict;
 
 // A byte at a place; answers the place after it, as every function here that stores.
 fn put_byte(out: &mut [u8], at: usize, b: u8) -> usize

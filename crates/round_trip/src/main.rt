@@ -1,10 +1,10 @@
 // Order files replayed by the compiled code: document 01's examples of budget 0, and the printed run, whose views are written and then judged. It
 // prints each replay's line, what the view writer answers and the verdict. The gate compares that with the stored output.
+use findings::FileVerdict;
 use libc::STDOUT_FILENO;
 use orders::Replayed;
 use orders::WriteAnswer;
 use orders::Written;
-use views::FileVerdict;
 
 fn field(n: u64) {
     io::write_all(STDOUT_FILENO, b" ");

@@ -10,11 +10,11 @@ use Rattle.sets.specs.Sets.{has}
 use Rattle.files.specs.declared.Views.{Views}
 use Rattle.files.specs.Views.{owns, seenBy}
 use Rattle.files.specs.ViewFile.{joined}
-use Rattle.views.specs.declared.Finding.{Finding}
-use Rattle.views.specs.declared.Finding.the-variants.{Nothing, LacksItself}
-use Rattle.views.specs.declared.Found.{Found}
-use Rattle.views.specs.Findings.{isFinding, found, only, view, viewOf, breaks, ofOne, ofPair, ofPairs, firstBreak, firstOf}
-use Rattle.views.proofs.First.{joined-next, joined-none, break-here, no-breaks}
+use Rattle.findings.specs.declared.Finding.{Finding}
+use Rattle.findings.specs.declared.Finding.the-variants.{Nothing, LacksItself}
+use Rattle.findings.specs.declared.Found.{Found}
+use Rattle.findings.specs.Findings.{isFinding, found, only, view, viewOf, breaks, ofOne, ofPair, ofPairs, firstBreak, firstOf}
+use Rattle.findings.proofs.First.{joined-next, joined-none, break-here, no-breaks}
 
 -- what is left above i
 abbrev pub left : (ℕ → List Found) → ℕ → List Found

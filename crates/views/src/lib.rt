@@ -7,38 +7,17 @@ ghost use mathlib.Core.List.{_++_};
 ghost use Rattle.sets.specs.Sets.{has};
 ghost use Rattle.files.specs.Views.{noneOf};
 ghost use Rattle.files.specs.ViewFile.{testedView, testedAt, valuesRead, withView, refusedAt, joined, readFrom, readOf};
-ghost use Rattle.views.specs.Findings.{isFinding, findingNumber, found, only, view, agree, breaks};
-ghost use Rattle.views.specs.Findings.{ofAll, ofPairs, firstBreak, firstOf, checkOf};
-ghost use Rattle.views.specs.Verdict.{verdictOf};
+ghost use Rattle.findings.specs.Findings.{isFinding, findingNumber, found, only, view, agree, breaks};
+ghost use Rattle.findings.specs.Findings.{ofAll, ofPairs, firstBreak, firstOf, checkOf};
+ghost use Rattle.findings.specs.Verdict.{verdictOf};
 use files::FileAnswer;
 use files::Header;
 use files::ViewRecord;
 use files::Views;
 use files::ViewsRead;
-
-// What the checker finds; `findingNumber` of specs/Findings gives document 01's number for each.
-pub enum Finding {
-    Nothing,
-    LacksItself,
-    Apart,
-    Unlike,
-    Disagree,
-}
-
-// A finding and the processes that it names, 0 where it names none.
-pub struct Found {
-    pub finding: Finding,
-    pub i: u32,
-    pub j: u32,
-}
-
-// The verdict of a file, in document 01's numbers.
-pub struct FileVerdict {
-    pub number: u32,
-    pub place: usize,
-    pub i: u32,
-    pub j: u32,
-}
+use findings::FileVerdict;
+use findings::Finding;
+use findings::Found;
 
 // A `VW` whose fixed bytes are there: 14, 15, 16, then 11 for its values, or the view's process and set.
 fn tested(s: &[u8], at: usize, n: u32, own: u32, p: u32, w: u32) -> ViewRecord

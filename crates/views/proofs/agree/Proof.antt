@@ -7,10 +7,10 @@ use lib.Bits.{bitAnd}
 use denote.Ref.{now}
 use borrow.Author.Needs.{needs}
 use Rattle.sets.specs.Sets.{has, every}
-use Rattle.views.specs.Findings.{agree, view, sameAt}
+use Rattle.findings.specs.Findings.{agree, view, sameAt}
 use Rattle.files.proofs.Tests.{told}
 use Rattle.views.proofs.Every.{every-more, every-fails}
-use Rattle.views.proofs.Agreement.{not-both, same-value, other-value}
+use Rattle.findings.proofs.Agreement.{not-both, same-value, other-value}
 use Rattle.views.proofs.agree.Statement.{statement}
 use Rattle.views.proofs.agree.Tie as tie
 

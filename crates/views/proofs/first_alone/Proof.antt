@@ -4,7 +4,7 @@ use mathlib.Core.Path.{_≡_, refl, sym, _∙_}
 use native.Mathlib.Omega.{arith}
 use borrow.Author.Needs.{needs}
 use Rattle.files.specs.ViewFile.{joined}
-use Rattle.views.specs.Findings.{ofOne, ofAll, firstOf}
+use Rattle.findings.specs.Findings.{ofOne, ofAll, firstOf}
 use Rattle.files.proofs.Tests.{told}
 use Rattle.views.proofs.Loops.{one-here, one-later, none-left}
 use Rattle.views.proofs.first_alone.Statement.{statement}

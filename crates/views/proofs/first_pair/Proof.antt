@@ -5,10 +5,10 @@ use mathlib.Core.Path.{_≡_, refl, sym, ap, _∙_}
 use native.Mathlib.Omega.{arith}
 use borrow.Author.Needs.{needs}
 use Rattle.files.specs.ViewFile.{joined}
-use Rattle.views.specs.declared.Found.{Found}
-use Rattle.views.specs.Findings.{isFinding, ofPairs, firstOf}
+use Rattle.findings.specs.declared.Found.{Found}
+use Rattle.findings.specs.Findings.{isFinding, ofPairs, firstOf}
 use Rattle.files.proofs.Tests.{told}
-use Rattle.views.proofs.First.{real-ofPairs, first-here, first-later}
+use Rattle.findings.proofs.First.{real-ofPairs, first-here, first-later}
 use Rattle.views.proofs.Loops.{left, next-of, none-left}
 use Rattle.views.proofs.first_pair.Statement.{statement}
 use Rattle.views.proofs.first_pair.Tie as tie

@@ -6,7 +6,7 @@ use native.Mathlib.Omega.{arith}
 use borrow.Author.Tests.{not-true, not-false}
 use borrow.Author.Needs.{needs}
 use Rattle.files.specs.Views.{owns}
-use Rattle.views.specs.Findings.{ofPair, ofPairs, firstOf}
+use Rattle.findings.specs.Findings.{ofPair, ofPairs, firstOf}
 use Rattle.files.proofs.Tests.{told}
 use Rattle.views.proofs.Loops.{left, pair-here, pair-later, pair-skipped, no-pairs, none-left}
 use Rattle.views.proofs.first_with.Statement.{statement}

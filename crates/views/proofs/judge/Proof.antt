@@ -3,9 +3,9 @@ use mathlib.Core.Path.{_≡_, sym, ap, _∙_}
 use mathlib.Core.Bool.{true, false}
 use denote.Ref.{now}
 use borrow.Author.Needs.{needs}
-use Rattle.views.specs.Findings.{view, agree, firstBreak}
+use Rattle.findings.specs.Findings.{view, agree, firstBreak}
 use Rattle.files.proofs.Tests.{told}
-use Rattle.views.proofs.Agreement.{nestings-of, breaks-agreeing, breaks-disagreeing}
+use Rattle.findings.proofs.Agreement.{nestings-of, breaks-agreeing, breaks-disagreeing}
 use Rattle.views.proofs.judge.Statement.{statement}
 use Rattle.views.proofs.judge.Tie as tie
 

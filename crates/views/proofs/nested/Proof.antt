@@ -1,7 +1,7 @@
 -- `views::nested` meets its contract: the two tests decide.
 use mathlib.Core.Path.{_∙_}
 use borrow.Author.Needs.{needs}
-use Rattle.views.proofs.Agreement.{nestings-equal, nestings-one, nestings-other}
+use Rattle.findings.proofs.Agreement.{nestings-equal, nestings-one, nestings-other}
 use Rattle.views.proofs.nested.Statement.{statement}
 use Rattle.views.proofs.nested.Tie as tie
 

@@ -1,8 +1,8 @@
 -- `views::verdict` meets its contract: the file's own number first, and then the checker's.
 use mathlib.Core.Path.{sym, ap, _∙_}
 use borrow.Author.Needs.{needs}
-use Rattle.views.specs.Verdict.{verdictBy, verdictOf}
-use Rattle.views.proofs.Verdicts.{verdict-read, verdict-refused}
+use Rattle.findings.specs.Verdict.{verdictBy, verdictOf}
+use Rattle.findings.proofs.Verdicts.{verdict-read, verdict-refused}
 use Rattle.views.proofs.verdict.Statement.{statement}
 use Rattle.views.proofs.verdict.Tie as tie
 

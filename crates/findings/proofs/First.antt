@@ -8,11 +8,11 @@ use native.Mathlib.Omega.{arith}
 use Rattle.files.specs.declared.Views.{Views}
 use Rattle.files.specs.Views.{owns}
 use Rattle.files.specs.ViewFile.{joined}
-use Rattle.views.specs.declared.Finding.{Finding}
-use Rattle.views.specs.declared.Finding.the-variants.{LacksItself, Apart, Unlike, Disagree}
-use Rattle.views.specs.declared.Found.{Found}
-use Rattle.views.specs.Findings.{isFinding, found, only, View, viewOf, lacks, breaks, disagree, apart, unlike}
-use Rattle.views.specs.Findings.{ofOne, ofPair, ofPairs, firstBreak, firstOf}
+use Rattle.findings.specs.declared.Finding.{Finding}
+use Rattle.findings.specs.declared.Finding.the-variants.{LacksItself, Apart, Unlike, Disagree}
+use Rattle.findings.specs.declared.Found.{Found}
+use Rattle.findings.specs.Findings.{isFinding, found, only, View, viewOf, lacks, breaks, disagree, apart, unlike}
+use Rattle.findings.specs.Findings.{ofOne, ofPair, ofPairs, firstBreak, firstOf}
 
 -- the first part, and what is left of the parts up to 32
 pub joined-next : {A : Type 0} (i : ℕ) (f : ℕ → List A) → i < 32 → joined (suc i) (32 - i) f ≡ f (i + 1) ++ joined (suc (i + 1)) (32 - (i + 1)) f

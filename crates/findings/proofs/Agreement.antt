@@ -13,9 +13,9 @@ use Rattle.sets.specs.Sets.{has, within}
 use Rattle.sets.proofs.Laws.{every-true, true-every, every-ext}
 use Rattle.sets.proofs.Bits.{has-and}
 use Rattle.files.specs.Views.{cell}
-use Rattle.views.specs.declared.Finding.{Finding}
-use Rattle.views.specs.declared.Finding.the-variants.{Nothing, Apart, Unlike, Disagree}
-use Rattle.views.specs.Findings.{only, View, view, sameAt, agree, insideAt, inside, facing, breaks, firstBreak}
+use Rattle.findings.specs.declared.Finding.{Finding}
+use Rattle.findings.specs.declared.Finding.the-variants.{Nothing, Apart, Unlike, Disagree}
+use Rattle.findings.specs.Findings.{only, View, view, sameAt, agree, insideAt, inside, facing, breaks, firstBreak}
 
 -- the place of a view's value for process k + 1
 cell-plus : (i k : ℕ) → cell i (k + 1) ≡ 32 * (i - 1) + k

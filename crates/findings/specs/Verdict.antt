@@ -6,9 +6,9 @@ use mathlib.Core.List.{List}
 use Rattle.files.specs.declared.ViewsRead.{ViewsRead}
 use Rattle.files.specs.Numbers.{numberOf, accepted}
 use Rattle.files.specs.ViewFile.{readOf}
-use Rattle.views.specs.declared.Found.{Found}
-use Rattle.views.specs.declared.FileVerdict.{FileVerdict}
-use Rattle.views.specs.Findings.{findingNumber, checkOf}
+use Rattle.findings.specs.declared.Found.{Found}
+use Rattle.findings.specs.declared.FileVerdict.{FileVerdict}
+use Rattle.findings.specs.Findings.{findingNumber, checkOf}
 
 -- of a file that was read
 abbrev pub judged : ℕ → Found → FileVerdict

@@ -15,13 +15,13 @@ use Rattle.sets.proofs.Laws.{either, every-true, true-every, has-known}
 use Rattle.files.specs.declared.Views.{Views}
 use Rattle.files.specs.Views.{owns, seenBy, valueBy}
 use Rattle.files.specs.ViewFile.{joined}
-use Rattle.views.specs.declared.Finding.{Finding}
-use Rattle.views.specs.declared.Finding.the-variants.{LacksItself, Apart, Unlike, Disagree}
-use Rattle.views.specs.declared.Found.{Found}
-use Rattle.views.specs.Findings.{found, only, View, viewOf, sameAt, agree, insideAt, inside, facing, breaks}
-use Rattle.views.specs.Findings.{ofOne, ofPair, ofAll, ofPairs, findings}
-use Rattle.views.specs.Properties.{Has, Pair, Obeys, AcceptsExactly}
-use Rattle.views.proofs.Agreement.{agree-swapped}
+use Rattle.findings.specs.declared.Finding.{Finding}
+use Rattle.findings.specs.declared.Finding.the-variants.{LacksItself, Apart, Unlike, Disagree}
+use Rattle.findings.specs.declared.Found.{Found}
+use Rattle.findings.specs.Findings.{found, only, View, viewOf, sameAt, agree, insideAt, inside, facing, breaks}
+use Rattle.findings.specs.Findings.{ofOne, ofPair, ofAll, ofPairs, findings}
+use Rattle.findings.specs.Properties.{Has, Pair, Obeys, AcceptsExactly}
+use Rattle.findings.proofs.Agreement.{agree-swapped}
 
 -- Parts of an empty list are empty, and empty parts make an empty list.
 pub empty-left : {A : Type 0} (l m : List A) → l ++ m ≡ [] → l ≡ []

@@ -9,9 +9,9 @@ use Rattle.sets.specs.Sets.{has, every}
 use Rattle.files.specs.declared.Views.{Views}
 use Rattle.files.specs.Views.{owns, seenBy, cell}
 use Rattle.files.specs.ViewFile.{joined}
-use Rattle.views.specs.declared.Finding.{Finding}
-use Rattle.views.specs.declared.Finding.the-variants.{Nothing, LacksItself, Apart, Unlike, Disagree}
-use Rattle.views.specs.declared.Found.{Found}
+use Rattle.findings.specs.declared.Finding.{Finding}
+use Rattle.findings.specs.declared.Finding.the-variants.{Nothing, LacksItself, Apart, Unlike, Disagree}
+use Rattle.findings.specs.declared.Found.{Found}
 
 -- document 01's number for a finding
 abbrev pub findingNumber : Finding → ℕ

@@ -11,17 +11,17 @@ use Rattle.files.specs.declared.Views.{Views}
 use Rattle.files.specs.declared.ViewsRead.{ViewsRead}
 use Rattle.files.specs.Numbers.{numberOf, accepted}
 use Rattle.files.specs.ViewFile.{readOf}
-use Rattle.views.specs.declared.Finding.{Finding}
-use Rattle.views.specs.declared.Finding.the-variants.{Nothing, LacksItself, Apart, Unlike, Disagree}
-use Rattle.views.specs.declared.Found.{Found}
-use Rattle.views.specs.declared.FileVerdict.{FileVerdict}
-use Rattle.views.specs.Findings.{findingNumber, isFinding, findings, checkOf}
-use Rattle.views.specs.Verdict.{judged, unread, verdictBy, verdictOf}
-use Rattle.views.specs.Properties.{Obeys, RefusedFirst, ReadThenChecked, YesExactly}
+use Rattle.findings.specs.declared.Finding.{Finding}
+use Rattle.findings.specs.declared.Finding.the-variants.{Nothing, LacksItself, Apart, Unlike, Disagree}
+use Rattle.findings.specs.declared.Found.{Found}
+use Rattle.findings.specs.declared.FileVerdict.{FileVerdict}
+use Rattle.findings.specs.Findings.{findingNumber, isFinding, findings, checkOf}
+use Rattle.findings.specs.Verdict.{judged, unread, verdictBy, verdictOf}
+use Rattle.findings.specs.Properties.{Obeys, RefusedFirst, ReadThenChecked, YesExactly}
 use Rattle.files.proofs.WholeFile.{read-place}
-use Rattle.views.proofs.First.{none-first}
-use Rattle.views.proofs.Accepts.{accepts-exactly}
-use Rattle.views.proofs.FirstBreak.{real-findings, yes-is-no-finding}
+use Rattle.findings.proofs.First.{none-first}
+use Rattle.findings.proofs.Accepts.{accepts-exactly}
+use Rattle.findings.proofs.FirstBreak.{real-findings, yes-is-no-finding}
 
 abbrev pub parts : ℕ → ℕ → ℕ → ℕ → FileVerdict
 parts k at i j = record { number = k; place = at; i = i; j = j }

@@ -11,14 +11,14 @@ use Rattle.sets.proofs.Laws.{either, has-known}
 use Rattle.files.specs.declared.Views.{Views}
 use Rattle.files.specs.Views.{owns, seenBy}
 use Rattle.files.specs.ViewFile.{joined}
-use Rattle.views.specs.declared.Finding.{Finding}
-use Rattle.views.specs.declared.Finding.the-variants.{Nothing, LacksItself, Apart, Unlike, Disagree}
-use Rattle.views.specs.declared.Found.{Found}
-use Rattle.views.specs.Findings.{found, isFinding, only, View, viewOf, disagree, apart, unlike, breaks}
-use Rattle.views.specs.Findings.{ofOne, ofPair, ofAll, ofPairs, findings, firstBreak, firstOf, checkOf}
-use Rattle.views.specs.Properties.{Has, FirstAlone, FirstPair, YesIsNoFinding, NamesTheFirst}
-use Rattle.views.proofs.First.{Real, real-append, real-joined, real-ofOne, real-ofPair, real-ofPairs, first-here, first-later, none-first}
-use Rattle.views.proofs.Accepts.{joined-parts, joined-empty, pair-empty, empty-pair, one-has, has-one}
+use Rattle.findings.specs.declared.Finding.{Finding}
+use Rattle.findings.specs.declared.Finding.the-variants.{Nothing, LacksItself, Apart, Unlike, Disagree}
+use Rattle.findings.specs.declared.Found.{Found}
+use Rattle.findings.specs.Findings.{found, isFinding, only, View, viewOf, disagree, apart, unlike, breaks}
+use Rattle.findings.specs.Findings.{ofOne, ofPair, ofAll, ofPairs, findings, firstBreak, firstOf, checkOf}
+use Rattle.findings.specs.Properties.{Has, FirstAlone, FirstPair, YesIsNoFinding, NamesTheFirst}
+use Rattle.findings.proofs.First.{Real, real-append, real-joined, real-ofOne, real-ofPair, real-ofPairs, first-here, first-later, none-first}
+use Rattle.findings.proofs.Accepts.{joined-parts, joined-empty, pair-empty, empty-pair, one-has, has-one}
 
 pub real-findings : (v : Views) → Real (findings v)
 unfolding findings

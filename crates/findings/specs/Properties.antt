@@ -11,10 +11,10 @@ use Rattle.files.specs.declared.Views.{Views}
 use Rattle.files.specs.Numbers.{numberOf, accepted}
 use Rattle.files.specs.Views.{owns, seenBy, valueBy}
 use Rattle.files.specs.ViewFile.{readOf}
-use Rattle.views.specs.declared.Finding.{Finding}
-use Rattle.views.specs.declared.Finding.the-variants.{Nothing, LacksItself, Apart, Unlike, Disagree}
-use Rattle.views.specs.Findings.{found, isFinding, viewOf, disagree, apart, unlike, breaks, findings, checkOf}
-use Rattle.views.specs.Verdict.{judged, unread, verdictOf}
+use Rattle.findings.specs.declared.Finding.{Finding}
+use Rattle.findings.specs.declared.Finding.the-variants.{Nothing, LacksItself, Apart, Unlike, Disagree}
+use Rattle.findings.specs.Findings.{found, isFinding, viewOf, disagree, apart, unlike, breaks, findings, checkOf}
+use Rattle.findings.specs.Verdict.{judged, unread, verdictOf}
 
 -- process i has a view
 abbrev pub Has : Views → ℕ → Type 0

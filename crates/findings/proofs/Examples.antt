@@ -9,11 +9,11 @@ use lib.ListN.{length}
 use Rattle.sets.specs.Sets.{has, plus, first, every, count, within, size}
 use Rattle.files.specs.Records.{wordBytes, markOf, markAt, headerOf, viewAt}
 use Rattle.files.specs.ViewFile.{joined, testedAt, valuesRead, readFrom, readOf}
-use Rattle.views.specs.declared.FileVerdict.{FileVerdict}
+use Rattle.findings.specs.declared.FileVerdict.{FileVerdict}
 use Rattle.files.specs.declared.Views.{Views}
-use Rattle.views.specs.declared.Found.{Found}
-use Rattle.views.specs.Findings.{agree, inside, breaks, ofOne, ofPair, ofAll, findings, checkOf}
-use Rattle.views.specs.Verdict.{verdictOf}
+use Rattle.findings.specs.declared.Found.{Found}
+use Rattle.findings.specs.Findings.{agree, inside, breaks, ofOne, ofPair, ofAll, findings, checkOf}
+use Rattle.findings.specs.Verdict.{verdictOf}
 
 pub record Line : Type 0 where
   pub file : List ℕ
