@@ -8,7 +8,7 @@ use native.Mathlib.Decide.{ℕ-discrete}
 use native.Mathlib.Omega.{arith}
 use lib.Dec.{leb, eqb}
 use lib.Pow.{pow-mono, ones-lt}
-use lib.Count.{ones, ones-step, ones-ones}
+use lib.Count.{ones, ones-step}
 use borrow.Author.Tests.{leb-true, leb-false, le-leb, lt-leb, eqb-true, eqb-false}
 use Rattle.sets.specs.Sets.{known, has, plus, first, every, tick, count, within, size, setOf, upwards}
 use Rattle.sets.proofs.Digits.{digit, digit-is, digit-small, digit-zero, digit-above, digits-equal, add-here, add-other, add-below, ones-digit, cleared-digit}
@@ -104,26 +104,6 @@ count-beyond f k (suc l) h u =
     ⊎-elim
     (λ below. omega (arith, ap tick (h (suc l) (omega arith) (omega arith)), count-beyond f k l (λ i a b. h i a (omega arith)) below))
     (λ here. ap (count f) (sym here))
-    (le-suc-iff .0 u)
-
--- one more that passes
-pub count-more : (f g : ℕ → Bool) (k q : ℕ) → 1 ≤ q → q ≤ k → f q ≡ false → g q ≡ true
-    → ((i : ℕ) → 1 ≤ i → i ≤ k → i ≢ q → f i ≡ g i) → count g k ≡ count f k + 1
-unfolding count
-count-more f g zero q l u n y h = omega arith
-count-more f g (suc k) q l u n y h =
-    ⊎-elim
-    (λ below. omega (
-      arith,
-      count-more f g k q l below n y (λ i a b. h i a (omega arith)),
-      ap tick (h (suc k) (omega arith) (omega arith) (omega arith)),
-    ))
-    (λ here. omega (
-      arith,
-      ap (λ i. tick (g i)) (sym here) ∙ ap tick y,
-      ap (λ i. tick (f i)) (sym here) ∙ ap tick n,
-      count-ext f g k (λ i a b. h i a (omega arith) (omega arith)),
-    ))
     (le-suc-iff .0 u)
 
 -- the count from below
@@ -384,28 +364,6 @@ digits-count (suc k) s h =
 pub size-ones : (s : ℕ) → s < 2 ^ 32 → size s ≡ ones s
 unfolding size
 size-ones s h = count-ext (has s) (λ i. eqb (digit s (i - 1)) 1) 32 (λ i l u. known-digit s i (true-known i l u)) ∙ digits-count 32 s h
-
-pub size-plus : (s i : ℕ) → 1 ≤ i → i ≤ 32 → has s i ≡ false → size (plus s i) ≡ size s + 1
-unfolding size
-size-plus s i l u n =
-    count-more (has s) (has (plus s i)) 32 i l u n (has-plus-same s i l u) (λ j a b d. sym (has-plus-other s i j (λ q. d (sym q))))
-
-pub size-within : (s t : ℕ) → within s t ≡ true → size s ≤ size t
-unfolding size
-size-within s t e = count-mono (has s) (has t) 32 (λ i l u. within-true s t e i)
-
-pub within-same-size : (s t : ℕ) → s < 2 ^ 32 → t < 2 ^ 32 → within s t ≡ true → size s ≡ size t → s ≡ t
-unfolding size
-within-same-size s t hs ht e z =
-    members-equal s t hs ht (λ i. same-truth (has s i) (has t i) (within-true s t e i) (λ m.
-    let range = has-known t i m in count-same (has s) (has t) 32 (λ j l u. within-true s t e j) z i (range .0) (range .1) m))
-
-pub size-first : (n : ℕ) → size (first n) ≡ min n 32
-unfolding first
-size-first n = size-ones (first n) (first-below n) ∙ ones-ones (min n 32)
-
-pub size-inside-first : (s n : ℕ) → within s (first n) ≡ true → size s ≤ n
-size-inside-first s n e = omega (arith, size-within s (first n) e, size-first n)
 
 -- ---- the processes from k on
 

@@ -1,7 +1,5 @@
 -- `orders::fresh` meets its contract: 1 to 32 is accepted.
-use mathlib.Core.Path.{ap, _∙_}
 use borrow.Author.Tests.{le-leb}
-use Rattle.rules.specs.declared.Called.{Called}
 use Rattle.rules.specs.Calls.{newOf}
 use borrow.Author.Needs.{needs}
 use Rattle.orders.proofs.fresh.Statement.{statement}

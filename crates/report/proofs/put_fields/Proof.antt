@@ -1,6 +1,5 @@
 -- `report::put_fields` meets its contract. The loop's invariant: the numbers from i on are left to store.
 use Prim.Native.Nat.{_-_}
-use native.Mathlib.Omega.{arith}
 use lib.ListN.{length}
 use denote.Ref.{now}
 use borrow.Author.Needs.{needs}

@@ -5,35 +5,27 @@ use borrow.Author.Needs.{needs}
 use Rattle.shape.proofs.ended_well.Statement.{statement}
 use Rattle.shape.proofs.ended_well.Tie as tie
 
--- src/shape.rt:117:9
 returns : tie.Need-returns
 returns c = rw (lt-leb _ _ (c .if1 .taken))
 
--- src/shape.rt:120:9
 returns-2 : tie.Need-returns-2
 returns-2 c = rw (le-leb _ _ (c .before .if1 .left), lt-leb _ _ (c .if2 .taken))
 
--- src/shape.rt:122:8
 size-requires : tie.Need-size-requires
 size-requires c κs = search needs
 
--- src/shape.rt:123:42
 cast-within : tie.Need-cast-within
 cast-within c = search needs
 
--- src/shape.rt:123:35
 mul-within : tie.Need-mul-within
 mul-within c = search needs
 
--- src/shape.rt:123:35
 element-copy-out-within : tie.Need-element-copy-out-within
 element-copy-out-within c = search needs
 
--- src/shape.rt:123:9
 within-requires : tie.Need-within-requires
 within-requires c κs = search needs
 
--- src/shape.rt:123:9
 returns-3 : tie.Need-returns-3
 returns-3 c =
     rw (
@@ -42,7 +34,6 @@ returns-3 c =
       eq-eqb _ _ (sym (c .before .before .before .size .ensures) ∙ c .before .before .if3 .taken),
     ) (c .within .ensures)
 
--- src/shape.rt:112:1
 returns-4 : tie.Need-returns-4
 returns-4 c =
     rw (

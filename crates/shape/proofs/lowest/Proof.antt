@@ -5,47 +5,36 @@ use borrow.Author.Needs.{needs}
 use Rattle.shape.proofs.lowest.Statement.{statement}
 use Rattle.shape.proofs.lowest.Tie as tie
 
--- src/shape.rt:30:26
 enum-told : tie.Need-enum-told
 enum-told c = search needs
 
--- src/shape.rt:31:26
 enum-known-stage : tie.Need-enum-known-stage
 enum-known-stage c = search needs
 
--- src/shape.rt:31:53
 lowest-at-requires : tie.Need-lowest-at-requires
 lowest-at-requires c κs = search needs
 
--- src/shape.rt:32:27
 enum-known-stage-2 : tie.Need-enum-known-stage-2
 enum-known-stage-2 c = search needs
 
--- src/shape.rt:32:47
 lowest-at-requires-2 : tie.Need-lowest-at-requires-2
 lowest-at-requires-2 c κs = search needs
 
--- src/shape.rt:33:26
 enum-known-stage-3 : tie.Need-enum-known-stage-3
 enum-known-stage-3 c = search needs
 
--- src/shape.rt:33:53
 lowest-at-requires-3 : tie.Need-lowest-at-requires-3
 lowest-at-requires-3 c κs = search needs
 
--- src/shape.rt:26:1
 returns : tie.Need-returns
 returns c = search needs
 
--- src/shape.rt:26:1
 returns-2 : tie.Need-returns-2
 returns-2 c = c .lowest-at .ensures ∙ sym (ap lowestRow (c .before .before .stage .given .1))
 
--- src/shape.rt:26:1
 returns-3 : tie.Need-returns-3
 returns-3 c = c .lowest-at2 .ensures ∙ sym (ap lowestRow (c .before .before .stage2 .given .1))
 
--- src/shape.rt:26:1
 returns-4 : tie.Need-returns-4
 returns-4 c = c .lowest-at3 .ensures ∙ sym (ap lowestRow (c .before .before .stage3 .given .1))
 

@@ -4,19 +4,15 @@ use borrow.Author.Needs.{needs}
 use Rattle.shape.proofs.lowest_at.Statement.{statement}
 use Rattle.shape.proofs.lowest_at.Tie as tie
 
--- src/shape.rt:17:9
 returns : tie.Need-returns
 returns c = rw (lt-leb _ _ (c .if1 .taken))
 
--- src/shape.rt:20:16
 add-result : tie.Need-add-result
 add-result c = search needs
 
--- src/shape.rt:20:9
 returns-2 : tie.Need-returns-2
 returns-2 c = rw (le-leb _ _ (c .before .if1 .left), eq-eqb _ _ (c .if2 .taken))
 
--- src/shape.rt:13:1
 returns-3 : tie.Need-returns-3
 returns-3 c = rw (le-leb _ _ (c .before .if1 .left), ne-eqb _ _ (c .if2 .left))
 

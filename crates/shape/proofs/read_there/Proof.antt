@@ -7,25 +7,20 @@ use borrow.Author.Needs.{needs}
 use Rattle.shape.proofs.read_there.Statement.{statement}
 use Rattle.shape.proofs.read_there.Tie as tie
 
--- src/shape.rt:86:9
 first-requires : tie.Need-first-requires
 first-requires c κs = search needs
 
--- src/shape.rt:86:9
 returns : tie.Need-returns
 returns c =
     let e : _≡_ {A = ℕ} 0 (c .before .before .args .made - 1) = omega arith in
     c .first .ensures ∙ ap first e
 
--- src/shape.rt:88:17
 sub-first : tie.Need-sub-first
 sub-first c = search needs
 
--- src/shape.rt:88:5
 first-requires-2 : tie.Need-first-requires-2
 first-requires-2 c κs = search needs
 
--- src/shape.rt:82:1
 returns-2 : tie.Need-returns-2
 returns-2 c = search needs
 
