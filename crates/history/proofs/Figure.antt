@@ -134,7 +134,7 @@ pairs-count m x f (suc k) =
     ticks true = refl
     ticks false = refl
 
-register-stays : (m m′ : Machine) → RegistersStay m m′ → (y j : ℕ) → register m′ y j ≡ register m y j
+pub register-stays : (m m′ : Machine) → RegistersStay m m′ → (y j : ℕ) → register m′ y j ≡ register m y j
 register-stays m m′ r y j =
     ap₂ (λ (rows cells : List ℕ). cond (has (rowIn rows y) j) (holds (cellIn cells y j)) empty) (r .rows) (r .cells)
 

@@ -10,5 +10,6 @@ pub mod Answers
 pub mod Given
 pub mod Snapshot
 pub mod Alone
+pub mod Stays
 pub mod Theorems
 pub mod Examples

@@ -2,7 +2,7 @@
 use Rattle.history.specs.Theorems.{StepIsFirstAccess, EnterIsStart, CrashIsEnd, ViewIsReturned, EveryStateShaped, NeverOneNorSeven}
 use Rattle.history.specs.Theorems.{AcceptedWhileAccesses, AtMostXReachX}
 use Rattle.history.specs.Theorems.{ReachedIsReaches, ThreeProperties, ThreePropertiesOfSets, ViewsAreGiven, ExactSteps, EnoughSteps}
-use Rattle.history.specs.Theorems.{AccessesCounted, WaitFree}
+use Rattle.history.specs.Theorems.{AccessesCounted, WaitFree, CrashedStays, WrittenStays}
 use Rattle.history.specs.Theorems.{AloneFinishes, OverAppend, CountsOfRuns}
 use Rattle.history.proofs.Appends
 use Rattle.history.proofs.Moves
@@ -12,6 +12,7 @@ use Rattle.history.proofs.Levels
 use Rattle.history.proofs.Answers
 use Rattle.history.proofs.Snapshot
 use Rattle.history.proofs.Alone
+use Rattle.history.proofs.Stays
 
 pub step-is-first-access : StepIsFirstAccess
 step-is-first-access = Figure.step-is-first-access
@@ -60,6 +61,12 @@ accesses-counted = Counts.accesses-counted
 
 pub wait-free : WaitFree
 wait-free = Alone.wait-free
+
+pub crashed-stays : CrashedStays
+crashed-stays = Stays.crashed-stays
+
+pub written-stays : WrittenStays
+written-stays = Stays.written-stays
 
 pub alone-finishes : AloneFinishes
 alone-finishes = Alone.alone-finishes

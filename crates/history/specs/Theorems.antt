@@ -15,7 +15,7 @@ use Rattle.rules.specs.Calls.{numberOf, accepted, fresh, enterOf, stepOf, crash
 use Rattle.rules.specs.Statements.{Meets}
 use Rattle.history.specs.Runs.{Call, steps, answer, from, runs, tally, acceptedSteps, allSteps, acceptedCalls, refusedCalls, reached}
 use Rattle.history.specs.Runs.{Reaches, given}
-use Rattle.history.specs.Figure.{Pair, returns, halted, update-snapshot, accesses, registersAfter, remains, register, programOf}
+use Rattle.history.specs.Figure.{holds, Pair, returns, halted, update-snapshot, accesses, registersAfter, remains, register, programOf}
 use Rattle.history.specs.Views.{Has, View}
 
 -- Demand 2: "An accepted step makes one register access and leaves the machine as the published recursive algorithm does." Of any well shaped
@@ -127,6 +127,17 @@ AccessesCounted = OfEveryRun λ n cs. (p : ℕ) → 1 ≤ p → p ≤ n → acce
 abbrev pub WaitFree : Type 0
 WaitFree = OfEveryRun λ n cs. (p : ℕ) → 1 ≤ p → p ≤ n → entered (stageOf (runs n cs) p) ≡ true → crashed (stageOf (runs n cs) p) ≡ false
     → (k : ℕ) → n * (n + 1) ≤ acceptedSteps n cs p + k → finished (stageOf (runs n (cs ++ replicate k (steps p))) p) ≡ true
+
+-- Document 01, rule 2: "the same three for ever once it has crashed"; rule 6: "A crashed process never moves again." Whatever calls come after, its
+-- record is the one that it had.
+abbrev pub CrashedStays : Type 0
+CrashedStays = OfEveryRun λ n cs. (p : ℕ) → 1 ≤ p → crashed (stageOf (runs n cs) p) ≡ true
+    → (ds : List Call) → processOf (runs n (cs ++ ds)) p ≡ processOf (runs n cs) p
+
+-- Rule 6: "What it wrote stays." So does what any process wrote: no register is emptied, and none is given another value.
+abbrev pub WrittenStays : Type 0
+WrittenStays = OfEveryRun λ n cs. (x i v : ℕ) → 1 ≤ x → x ≤ n → 1 ≤ i → i ≤ n → register (runs n cs) x i ≡ holds v
+    → (ds : List Call) → register (runs n (cs ++ ds)) x i ≡ holds v
 
 -- And if it has not finished, finishing alone is accepted; it is `more` accepted steps of p at the end of the list, at most n(n+1) in all.
 pub record FinishesAlone (n : ℕ) (cs : List Call) (p : ℕ) : Type 0 where

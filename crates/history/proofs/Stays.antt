@@ -1,0 +1,108 @@
+-- What no later call changes: the record of a crashed process, and what has been written.
+use mathlib.Core.Path.{_≡_, refl, sym, ap, ap₂, _∙_}
+use mathlib.Core.Logic.{_⊎_, inl, inr, _≢_}
+use mathlib.Core.Bool.{Bool, true, false, cond}
+use mathlib.Core.List.{List, [], _∷_}
+use Prim.Native.Nat.{ℕ, _≤_}
+use native.Mathlib.Omega.{arith}
+use Rattle.sets.specs.Sets.{has}
+use Rattle.rules.specs.declared.Machine.{Machine}
+use Rattle.rules.specs.declared.Called.{Called}
+use Rattle.rules.specs.State.{processOf, stageOf, valueOf, rowOf, cellOf, crashed, levelOf, madeOf}
+use Rattle.rules.specs.Calls.{accepted, fresh, enterOf, stepOf, crashOf}
+use Rattle.rules.specs.Statements.{Meets, StepEffect}
+use Rattle.rules.proofs.Laws.Small.{not-both, equal-or-not}
+use Rattle.rules.proofs.Laws.Did.{what-calls-did}
+use Rattle.rules.proofs.Laws.Refused.{refused-hands-back}
+use Rattle.rules.proofs.Laws.Effects.{effects-of-calls}
+use Rattle.history.specs.Runs.{Call, enters, steps, crashes, after, from, runs}
+use Rattle.history.specs.Figure.{empty, holds, register}
+use Rattle.history.specs.Theorems.{CrashedStays, WrittenStays}
+use Rattle.history.proofs.Appends.{from-append}
+use Rattle.history.proofs.Moves.{meets-after, every-state-shaped, Stepped, writing, finding, ending, falling, stepped, by-call}
+use Rattle.history.proofs.Figure.{register-stays, enter-is-start, crash-is-end}
+
+-- Whoever steps has not crashed.
+not-crashed : (m m′ : Machine) (p : ℕ) → Stepped m m′ p → crashed (stageOf m p) ≡ false
+not-crashed m m′ p (writing x f was now) = ap crashed was
+not-crashed m m′ p (finding x k f was lo hi now) = ap crashed was
+not-crashed m m′ p (ending x f was e now) = ap crashed was
+not-crashed m m′ p (falling x f was ne two now) = ap crashed was
+
+holds-still : (n : ℕ) (m : Machine) → Meets n m → (p : ℕ) → 1 ≤ p → crashed (stageOf m p) ≡ true → (c : Call)
+    → processOf (after m c) p ≡ processOf m p
+holds-still n m M p lp t =
+    by-call m (M .held) p lp (λ c. processOf (after m c) p ≡ processOf m p)
+    (λ c e _ _. e)
+    (λ v a. not-both (crashed (stageOf m p)) t (ap crashed (what-calls-did .enter m p v a .1 .was)))
+    (λ a. not-both (crashed (stageOf m p)) t (not-crashed m (stepOf m p .machine) p (stepped m (M .held) p a)))
+    (λ a. not-both (crashed (stageOf m p)) t (ap crashed (what-calls-did .crash m p a .1 .was)))
+
+crashed-from : (n : ℕ) (m : Machine) → Meets n m → (p : ℕ) → 1 ≤ p → crashed (stageOf m p) ≡ true → (cs : List Call)
+    → processOf (from m cs) p ≡ processOf m p
+unfolding from
+crashed-from n m M p lp t [] = refl
+crashed-from n m M p lp t (c ∷ cs) =
+    let e = holds-still n m M p lp t c in
+    crashed-from n (after m c) (meets-after n m M c) p lp (ap (λ P. crashed (P .stage)) e ∙ t) cs ∙ e
+
+pub crashed-stays : CrashedStays
+crashed-stays n lo hi cs p lp t ds =
+    ap (λ m. processOf m p) (from-append (fresh n) cs ds) ∙ crashed-from n (runs n cs) (every-state-shaped n lo hi cs) p lp t ds
+
+-- A filled register, by its row and its cell.
+filled : (b : Bool) (c v : ℕ) → cond b (holds c) empty ≡ holds v → (b ≡ true) × (c ≡ v)
+filled true c v e = (refl, cc)
+filled false c v e = absurd (let z : _≡_ {A = ℕ} 0 1 = cc in omega arith)
+
+fill : (b : Bool) (c v : ℕ) → b ≡ true → c ≡ v → cond b (holds c) empty ≡ holds v
+fill true c v t e = ap holds e
+fill false c v t e = not-both false t refl
+
+module _ (n : ℕ) (m : Machine) (M : Meets n m) (x i v : ℕ) (lx : 1 ≤ x) (hx : x ≤ 32) (li : 1 ≤ i) (hi : i ≤ 32) (t : register m x i ≡ holds v) where
+  -- A step writes the register of its own process at its level, or nothing; there it writes what stood there.
+  after-step : (m′ : Machine) (p : ℕ) → StepEffect m m′ p → register m′ x i ≡ holds v
+  after-step m′ p s = go (equal-or-not x (levelOf (stageOf m p))) (equal-or-not i p)
+    where
+      away : (x ≢ levelOf (stageOf m p)) ⊎ (i ≢ p) → register m′ x i ≡ holds v
+      away ne = let r = s .elsewhere x i lx hx li hi ne in ap₂ (λ b c. cond b (holds c) empty) (r .0) (r .1) ∙ t
+
+      here : x ≡ levelOf (stageOf m p) → i ≡ p → (madeOf (m .n) (stageOf m p) ≡ 0) ⊎ (madeOf (m .n) (stageOf m p) ≢ 0) → register m′ x i ≡ holds v
+      here e q (inr later) = register-stays m m′ (s .later later) x i ∙ t
+      here e q (inl first) =
+          let o = filled (has (rowOf m x) i) (cellOf m x i) v t in
+          let r = s .first first in
+          fill (has (rowOf m′ x) i) (cellOf m′ x i) v (ap₂ (λ y j. has (rowOf m′ y) j) e q ∙ r .0)
+          (ap₂ (λ y j. cellOf m′ y j) e q ∙ r .1 ∙ sym (ap (λ j. valueOf m j) q) ∙ sym (M .shape .register x i lx hx li hi .value (o .0)) ∙ o .1)
+
+      go : (x ≡ levelOf (stageOf m p)) ⊎ (x ≢ levelOf (stageOf m p)) → (i ≡ p) ⊎ (i ≢ p) → register m′ x i ≡ holds v
+      go (inl e) (inl q) = here e q (equal-or-not (madeOf (m .n) (stageOf m p)) 0)
+      go (inl e) (inr ne) = away (inr ne)
+      go (inr ne) q = away (inl ne)
+
+  unless-refused : (c : Called) → (accepted c ≡ false → c .machine ≡ m) → (accepted c ≡ true → register (c .machine) x i ≡ holds v)
+      → register (c .machine) x i ≡ holds v
+  unless-refused c back does = go (accepted c) refl
+    where
+      go : (b : Bool) → accepted c ≡ b → register (c .machine) x i ≡ holds v
+      go true a = does a
+      go false a = ap (λ m′. register m′ x i) (back a) ∙ t
+
+  holds-on : (c : Call) → register (after m c) x i ≡ holds v
+  holds-on (enters p w) =
+      unless-refused (enterOf m p w) (refused-hands-back .enter m p w) (λ a. enter-is-start m (M .held) p w a .1 .registers x i ∙ t)
+  holds-on (steps p) =
+      unless-refused (stepOf m p) (refused-hands-back .step m p) (λ a. after-step (stepOf m p .machine) p (effects-of-calls .step m (M .held) p a))
+  holds-on (crashes p) = unless-refused (crashOf m p) (refused-hands-back .crash m p) (λ a. crash-is-end m (M .held) p a .1 .registers x i ∙ t)
+
+written-from : (n : ℕ) (m : Machine) → Meets n m → (x i v : ℕ) → 1 ≤ x → x ≤ 32 → 1 ≤ i → i ≤ 32 → register m x i ≡ holds v → (cs : List Call)
+    → register (from m cs) x i ≡ holds v
+unfolding from
+written-from n m M x i v lx hx li hi t [] = t
+written-from n m M x i v lx hx li hi t (c ∷ cs) =
+    written-from n (after m c) (meets-after n m M c) x i v lx hx li hi (holds-on n m M x i v lx hx li hi t c) cs
+
+pub written-stays : WrittenStays
+written-stays n lo hi cs x i v lx hx li hi′ t ds =
+    ap (λ m. register m x i) (from-append (fresh n) cs ds)
+    ∙ written-from n (runs n cs) (every-state-shaped n lo hi cs) x i v lx (omega arith) li (omega arith) t ds
