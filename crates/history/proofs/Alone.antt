@@ -1,11 +1,12 @@
 -- Nobody waits: a process that has entered and not crashed finishes by its own steps.
 use mathlib.Core.Path.{_≡_, refl, sym, ap, subst, _∙_}
+use mathlib.Core.Logic.{_⊎_, inl, inr, _≢_}
 use mathlib.Core.Bool.{Bool, true, false, _&&_, false≢true}
 use mathlib.Core.List.{List, [], _∷_, _++_, append-assoc}
 use Prim.Native.Nat.{ℕ, zero, suc, _+_, _-_, _*_, _≤_}
 use native.Mathlib.Omega.{arith}
 use lib.ListN.{replicate, replicate-append-replicate}
-use borrow.Author.Tests.{eq-eqb}
+use borrow.Author.Tests.{eq-eqb, eqb-true}
 use Rattle.sets.specs.Sets.{tick}
 use Rattle.rules.specs.declared.Stage.{Stage}
 use Rattle.rules.specs.declared.Stage.the-variants.{Absent, Running, Finished, Crashed}
@@ -14,20 +15,20 @@ use Rattle.rules.specs.State.{stageOf, entered, finished, crashed, accessesOf}
 use Rattle.rules.specs.Calls.{numberOf, accepted, fresh, stepOf, stepsOf, finishOf}
 use Rattle.rules.specs.Numbers.{lowest, crashLines}
 use Rattle.rules.specs.Statements.{Meets, Valid, FinishedAlone, RefusedAlone}
-use Rattle.rules.proofs.Laws.Small.{not-both}
+use Rattle.rules.proofs.Laws.Small.{not-both, equal-or-not}
 use Rattle.rules.proofs.Laws.Shape.{record-shaped}
 use Rattle.rules.proofs.Laws.Did.{what-calls-do, what-calls-did}
 use Rattle.rules.proofs.Laws.Numbers.{table-of-numbers}
 use Rattle.rules.proofs.Laws.Steps.{steps-on, steps-off}
 use Rattle.rules.proofs.Laws.Accesses.{accesses-of-calls}
 use Rattle.rules.proofs.Laws.Finishing.{finishing-alone}
-use Rattle.history.specs.Runs.{Call, steps, answer, after, from, runs, tally, stepOfTaken, acceptedSteps}
-use Rattle.history.specs.Theorems.{FinishesAlone, AloneFinishes, WaitFree}
+use Rattle.history.specs.Runs.{Call, steps, crashes, answer, after, from, runs, tally, stepOfTaken, acceptedSteps}
+use Rattle.history.specs.Theorems.{AloneNeverOneNorSeven, FinishesAlone, AloneFinishes, WaitFree}
 use Rattle.history.proofs.Appends.{from-append, tally-append}
 use Rattle.history.proofs.Moves.{meets-after, every-state-shaped, Stepped, writing, finding, ending, falling, stepped, by-call}
 use Rattle.history.proofs.Counts.{accesses-counted}
 use Rattle.history.proofs.Invariant.{Inv, inv-from, inv-runs}
-use Rattle.history.proofs.Answers.{answer-fine}
+use Rattle.history.proofs.Answers.{Fine, answer-fine}
 
 -- Whoever has finished stays so.
 was-running : (m m′ : Machine) (p : ℕ) → Stepped m m′ p → finished (stageOf m p) ≡ false
@@ -74,12 +75,9 @@ steps-calls (suc k) m p a = go (accepted (stepOf m p)) refl (steps-calls k (step
     go false t further = absurd (false≢true (sym t ∙ sym (ap accepted (steps-off k m p t)) ∙ a))
 
 -- Finishing alone from any state that a run leaves.
-alone-taken : (m : Machine) → Inv m → (p : ℕ) → Valid m p → (x k f : ℕ) → stageOf m p ≡ Running x k f → accepted (finishOf m p) ≡ true
-alone-taken m I p ok x k f e = go (accepted (finishOf m p)) refl
+alone-taken : (m : Machine) → Inv m → (p : ℕ) → lowest (crashLines m p) ≡ 0 → accepted (finishOf m p) ≡ true
+alone-taken m I p no-line = go (accepted (finishOf m p)) refl
   where
-    no-line : lowest (crashLines m p) ≡ 0
-    no-line = sym (table-of-numbers .crash m p) ∙ ap (λ c. numberOf (c .answer)) (what-calls-do .crashes m p ok x k f e)
-
     -- a refused one would end in a step that is refused with 7
     never : RefusedAlone m p → ⊥
     never r =
@@ -90,6 +88,19 @@ alone-taken m I p ok x k f e = go (accepted (finishOf m p)) refl
     go : (b : Bool) → accepted (finishOf m p) ≡ b → b ≡ true
     go true a = refl
     go false a = absurd (never (finishing-alone .refuses m (I .meets .held) p no-line a))
+
+-- Its number is that of a crash, or 0.
+pub alone-never-one-nor-seven : AloneNeverOneNorSeven
+alone-never-one-nor-seven n lo hi cs p = go (equal-or-not (lowest (crashLines m p)) 0)
+  where
+    m : Machine
+    m = runs n cs
+
+    go : (lowest (crashLines m p) ≡ 0) ⊎ (lowest (crashLines m p) ≢ 0) → Fine (finishOf m p)
+    go (inl none) = omega (arith, eqb-true (numberOf (finishOf m p .answer)) 0 (alone-taken m (inv-runs n lo hi cs) p none))
+    go (inr some) =
+        subst (λ k. (k ≢ 1) × (k ≢ 7)) (table-of-numbers .crash m p ∙ sym (table-of-numbers .finish m p some))
+        (answer-fine m (inv-runs n lo hi cs) (crashes p))
 
 pub alone-finishes : AloneFinishes
 alone-finishes n lo hi cs p lp hp came alive going = go (stageOf (runs n cs) p) refl came alive going
@@ -118,7 +129,9 @@ alone-finishes n lo hi cs p lp hp came alive going = go (stageOf (runs n cs) p) 
         }
       where
         yes-taken : accepted (finishOf (runs n cs) p) ≡ true
-        yes-taken = alone-taken (runs n cs) I p ok x k f e
+        yes-taken =
+            alone-taken (runs n cs) I p
+            (sym (table-of-numbers .crash (runs n cs) p) ∙ ap (λ c. numberOf (c .answer)) (what-calls-do .crashes (runs n cs) p ok x k f e))
 
         done : FinishedAlone (runs n cs) p
         done = finishing-alone .accepts (runs n cs) (I .meets .held) p yes-taken

@@ -1,6 +1,6 @@
 -- What specs/Theorems states, each under its own name.
 use Rattle.history.specs.Theorems.{StepIsFirstAccess, EnterIsStart, CrashIsEnd, ViewIsReturned, EveryStateShaped, NeverOneNorSeven}
-use Rattle.history.specs.Theorems.{AcceptedWhileAccesses, AtMostXReachX}
+use Rattle.history.specs.Theorems.{AloneNeverOneNorSeven, AcceptedWhileAccesses, AtMostXReachX}
 use Rattle.history.specs.Theorems.{ReachedIsReaches, ThreeProperties, ThreePropertiesOfSets, ViewsAreGiven, ExactSteps, EnoughSteps}
 use Rattle.history.specs.Theorems.{AccessesCounted, WaitFree, CrashedStays, WrittenStays}
 use Rattle.history.specs.Theorems.{AloneFinishes, OverAppend, CountsOfRuns}
@@ -31,6 +31,9 @@ every-state-shaped = Moves.every-state-shaped
 
 pub never-one-nor-seven : NeverOneNorSeven
 never-one-nor-seven = Answers.never-one-nor-seven
+
+pub alone-never-one-nor-seven : AloneNeverOneNorSeven
+alone-never-one-nor-seven = Alone.alone-never-one-nor-seven
 
 pub accepted-while-accesses : AcceptedWhileAccesses
 accepted-while-accesses = Answers.accepted-while-accesses

@@ -77,6 +77,10 @@ pub record NeitherOneNorSeven (n : ℕ) (cs : List Call) : Type 0 where
 abbrev pub NeverOneNorSeven : Type 0
 NeverOneNorSeven = OfEveryRun NeitherOneNorSeven
 
+-- Nor is finishing alone, after any run.
+abbrev pub AloneNeverOneNorSeven : Type 0
+AloneNeverOneNorSeven = OfEveryRun λ n cs. (p : ℕ) → (numberOf (finishOf (runs n cs) p .answer) ≢ 1) × (numberOf (finishOf (runs n cs) p .answer) ≢ 7)
+
 -- In a run a step is accepted exactly while the figure has an access left for the process.
 abbrev pub AcceptedWhileAccesses : Type 0
 AcceptedWhileAccesses = OfEveryRun λ n cs. (p : ℕ) → 1 ≤ p → p ≤ n → accepted (stepOf (runs n cs) p) ≡ accesses (programOf (runs n cs) p)
