@@ -2,9 +2,9 @@
 use mathlib.Core.Path.{_≡_}
 use mathlib.Core.Logic.{_↔_, _⊎_, _≢_}
 use mathlib.Core.Bool.{Bool, true, false, not, _&&_}
-use mathlib.Core.List.{List, [], _∷_, _++_}
+use mathlib.Core.List.{List, [], _∷_, _++_, List·Memᴰ}
 use Prim.Native.Nat.{ℕ, _+_, _-_, _*_, _≤_, _<_}
-use lib.Dec.{leb, eqb}
+use lib.Dec.{leb, ltb, eqb}
 use lib.ListN.{replicate}
 use Rattle.sets.specs.Sets.{has, size}
 use Rattle.rules.specs.declared.Stage.the-variants.{Absent, Running, Finished, Crashed}
@@ -135,6 +135,24 @@ pub record Given (k : ℕ) (ls : List Line) : Type 0 where
 pub record LowestIsGiven : Type 0 where
   pub some : (k : ℕ) → k ≢ 0 → (ls : List Line) → (lowest ls ≡ k) ↔ Given k ls
   pub nothing : (ls : List Line) → numbered ls ≡ true → (lowest ls ≡ 0) ↔ (none ls ≡ true)
+
+-- "The lowest number that applies is given": the numbers of every call's lines ascend, and so the number of the first line that applies is the
+-- lowest of all that apply. k is below the numbers of all the lines:
+abbrev pub below : ℕ → List Line → Bool
+below k [] = true
+below k (l ∷ ls) = ltb k (l .number) && below k ls
+
+abbrev pub ascending : List Line → Bool
+ascending [] = true
+ascending (l ∷ ls) = below (l .number) ls && ascending ls
+
+pub record LinesAscend : Type 0 where
+  pub enter : (m : Machine) (p : ℕ) → ascending (enterLines m p) ≡ true
+  pub step : (m : Machine) (p : ℕ) → ascending (stepLines m p) ≡ true
+  pub crash : (m : Machine) (p : ℕ) → ascending (crashLines m p) ≡ true
+  pub finish : (m : Machine) (p : ℕ) → ascending (finishLines m p) ≡ true
+  pub look : (m : Machine) (p : ℕ) → ascending (always m p) ≡ true
+  pub lowest-applies : (ls : List Line) → ascending ls ≡ true → (l : Line) → List·Memᴰ l ls → l .applies ≡ true → lowest ls ≤ l .number
 
 -- "The lowest number that applies is given for machine calls (1 to 7)." Finishing alone goes on after 6 with the numbers of its steps.
 pub record TableOfNumbers : Type 0 where

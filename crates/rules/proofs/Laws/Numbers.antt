@@ -2,11 +2,11 @@
 use mathlib.Core.Path.{_≡_, refl, sym, ap, subst, _∙_}
 use mathlib.Core.Logic.{_⊎_, inl, inr, _≢_}
 use mathlib.Core.Bool.{Bool, true, false, not, _&&_, cond, false≢true}
-use mathlib.Core.List.{List, [], _∷_, _++_}
+use mathlib.Core.List.{List, [], _∷_, _++_, List·Memᴰ, List·Memᴰ·head, List·Memᴰ·tail, List·Memᴰ·cases-cons}
 use Prim.Native.Nat.{ℕ, _≤_, _<_}
 use native.Mathlib.Omega.{arith}
-use lib.Dec.{leb, eqb}
-use borrow.Author.Tests.{leb-true, eq-eqb, ne-eqb}
+use lib.Dec.{leb, ltb, eqb}
+use borrow.Author.Tests.{leb-true, ltb-true, eq-eqb, ne-eqb}
 use Rattle.sets.specs.Sets.{size}
 use Rattle.rules.specs.declared.Stage.{Stage}
 use Rattle.rules.specs.declared.Stage.the-variants.{Absent, Running, Finished, Crashed}
@@ -17,8 +17,8 @@ use Rattle.rules.specs.Shape.{Going, shaped}
 use Rattle.rules.specs.Calls.{numberOf, done, refused, fresh, newOf, enterAt, enterOf, crashAt, crashOf, reading, settle, access, stepAt}
 use Rattle.rules.specs.Calls.{stepOf, finishAt, finishOf, looked, unseen, lookOf}
 use Rattle.rules.specs.Numbers.{Line, when, lowest, lastOfMany, always, enterLines, crashLines, stepLines}
-use Rattle.rules.specs.Statements.{none, numbered, Given, LowestIsGiven, TableOfNumbers}
-use Rattle.rules.proofs.Laws.Small.{both, and-first, and-second, equal-or-not}
+use Rattle.rules.specs.Statements.{none, numbered, Given, LowestIsGiven, below, ascending, LinesAscend, TableOfNumbers}
+use Rattle.rules.proofs.Laws.Small.{both, and-first, and-second, not-both, equal-or-not}
 use Rattle.rules.proofs.Laws.Did.{running, access-write, access-read, access-last, settle-finish, settle-fall, settle-stick}
 
 -- The law of the table.
@@ -86,6 +86,33 @@ lowest-is-given =
     record {
       some = λ k ne ls. (lowest-given k ne ls, given-lowest k ls);
       nothing = λ ls w. (lowest-none ls w, none-lowest ls);
+    }
+
+below-all : (k : ℕ) (ls : List Line) → below k ls ≡ true → (l : Line) → List·Memᴰ l ls → k < l .number
+below-all k (x ∷ xs) b l (List·Memᴰ·head e) = subst (λ y. k < y .number) (sym e) (ltb-true k (x .number) (and-first (ltb k (x .number)) _ b))
+below-all k (x ∷ xs) b l (List·Memᴰ·tail h) = below-all k xs (and-second (ltb k (x .number)) _ b) l h
+
+lowest-applies : (ls : List Line) → ascending ls ≡ true → (l : Line) → List·Memᴰ l ls → l .applies ≡ true → lowest ls ≤ l .number
+unfolding lowest
+lowest-applies (x ∷ xs) up l h a =
+    go (x .applies) refl (List·Memᴰ·cases-cons h) (λ h. lowest-applies xs (and-second (below (x .number) xs) _ up) l h a)
+  where
+    go : (b : Bool) → x .applies ≡ b → (l ≡ x) ⊎ List·Memᴰ l xs → (List·Memᴰ l xs → lowest xs ≤ l .number)
+        → (elim b as (λ _. ℕ) [ true ↦ x .number | false ↦ lowest xs ]) ≤ l .number
+    go true t (inl e) rest = subst (λ y. x .number ≤ y .number) (sym e) (omega arith)
+    go true t (inr h) rest = omega (arith, below-all (x .number) xs (and-first (below (x .number) xs) _ up) l h)
+    go false t (inl e) rest = not-both (x .applies) (sym (ap (λ y. y .applies) e) ∙ a) t
+    go false t (inr h) rest = rest h
+
+pub lines-ascend : LinesAscend
+lines-ascend =
+    record {
+      enter = λ m p. refl;
+      step = λ m p. refl;
+      crash = λ m p. refl;
+      finish = λ m p. refl;
+      look = λ m p. refl;
+      lowest-applies = lowest-applies;
     }
 
 -- Each call.
