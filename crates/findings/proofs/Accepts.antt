@@ -20,7 +20,7 @@ use Rattle.findings.specs.declared.Finding.the-variants.{LacksItself, Ap
 use Rattle.findings.specs.declared.Found.{Found}
 use Rattle.findings.specs.Findings.{found, only, View, viewOf, sameAt, agree, insideAt, inside, facing, breaks}
 use Rattle.findings.specs.Findings.{ofOne, ofPair, ofAll, ofPairs, findings}
-use Rattle.findings.specs.Properties.{Has, Pair, Obeys, AcceptsExactly}
+use Rattle.findings.specs.Properties.{Has, Pair, Obeys, AcceptsExactly, DisagreeIsApart}
 use Rattle.findings.proofs.Agreement.{agree-swapped}
 
 -- Parts of an empty list are empty, and empty parts make an empty list.
@@ -245,6 +245,12 @@ nested-agrees v i j n =
     (λ s. inside-agrees (viewOf v i) (viewOf v j) (inside-is v i j s))
     (λ s. agree-swapped (viewOf v j) (viewOf v i) (inside-agrees (viewOf v j) (viewOf v i) (inside-is v j i s)))
     n
+
+pub disagree-is-apart : DisagreeIsApart
+disagree-is-apart v i j d = (λ s. never (nested-agrees v i j (inl s)), λ s. never (nested-agrees v i j (inr s)))
+  where
+    never : agree (viewOf v i) (viewOf v j) ≡ true → ⊥
+    never t = false≢true (sym (ap not t) ∙ d)
 
 pub obeyed : (v : Views) → Obeys v → Fine v
 obeyed v o =

@@ -7,18 +7,18 @@ use mathlib.Core.List.{List, [], _∷_, _++_, map}
 use native.Mathlib.Nat.{eq-or-lt-of-le}
 use native.Mathlib.Omega.{arith}
 use Rattle.sets.specs.Sets.{has}
-use Rattle.sets.proofs.Laws.{either, has-known}
+use Rattle.sets.proofs.Laws.{either, has-known, has-zero}
 use Rattle.files.specs.declared.Views.{Views}
-use Rattle.files.specs.Views.{owns, seenBy}
+use Rattle.files.specs.Views.{owns, seenBy, noneOf}
 use Rattle.files.specs.ViewFile.{joined}
 use Rattle.findings.specs.declared.Finding.{Finding}
 use Rattle.findings.specs.declared.Finding.the-variants.{Nothing, LacksItself, Apart, Unlike, Disagree}
 use Rattle.findings.specs.declared.Found.{Found}
 use Rattle.findings.specs.Findings.{found, isFinding, only, View, viewOf, disagree, apart, unlike, breaks}
 use Rattle.findings.specs.Findings.{ofOne, ofPair, ofAll, ofPairs, findings, firstBreak, firstOf, checkOf}
-use Rattle.findings.specs.Properties.{Has, FirstAlone, FirstPair, YesIsNoFinding, NamesTheFirst}
+use Rattle.findings.specs.Properties.{Has, FirstAlone, FirstPair, YesIsNoFinding, NoViewsAccepted, NamesTheFirst}
 use Rattle.findings.proofs.First.{Real, real-append, real-joined, real-ofOne, real-ofPair, real-ofPairs, first-here, first-later, none-first}
-use Rattle.findings.proofs.Accepts.{joined-parts, joined-empty, pair-empty, empty-pair, one-has, has-one}
+use Rattle.findings.proofs.Accepts.{joined-parts, joined-empty, pair-empty, empty-pair, one-has, has-one, not-found}
 
 pub real-findings : (v : Views) → Real (findings v)
 unfolding findings
@@ -28,6 +28,13 @@ real-findings v =
 pub yes-is-no-finding : YesIsNoFinding
 unfolding checkOf
 yes-is-no-finding v = (λ e. none-first (findings v) (real-findings v) (ap (λ (f : Found). isFinding (f .finding)) e), λ e. ap firstOf e)
+
+nobody-accepted : (v : Views) → ((i : ℕ) → Has v i → ⊥) → checkOf v ≡ found Nothing 0 0
+nobody-accepted v n =
+    yes-is-no-finding v .1 (not-found v (record { selves = λ i a. absurd (n i a); pairs = λ i j _ a _. absurd (n i a) }))
+
+pub no-views-accepted : NoViewsAccepted
+no-views-accepted = record { nobody = nobody-accepted; none = λ n. nobody-accepted (noneOf n) (λ i a. false≢true (sym (has-zero i) ∙ a)) }
 
 -- The first of lists that are joined: which of them has it.
 record At (a k : ℕ) (f : ℕ → List Found) (g : Found) : Type 0 where

@@ -6,10 +6,10 @@ use mathlib.Core.Logic.{_↔_, _⊎_}
 use mathlib.Core.List.{List, []}
 use lib.ListN.{length}
 use Rattle.sets.specs.Sets.{has}
-use Rattle.sets.specs.Immediate.{Immediate}
+use Rattle.sets.specs.Immediate.{Inside, Immediate}
 use Rattle.files.specs.declared.Views.{Views}
 use Rattle.files.specs.Numbers.{numberOf, accepted}
-use Rattle.files.specs.Views.{owns, seenBy, valueBy}
+use Rattle.files.specs.Views.{owns, seenBy, valueBy, noneOf}
 use Rattle.files.specs.ViewFile.{readOf}
 use Rattle.findings.specs.declared.Finding.{Finding}
 use Rattle.findings.specs.declared.Finding.the-variants.{Nothing, LacksItself, Apart, Unlike, Disagree}
@@ -40,6 +40,16 @@ AcceptsExactly = (v : Views) → (findings v ≡ []) ↔ Obeys v
 -- a yes is the answer with no finding
 abbrev pub YesIsNoFinding : Type 0
 YesIsNoFinding = (v : Views) → (checkOf v ≡ found Nothing 0 0) ↔ (findings v ≡ [])
+
+-- "No views at all is accepted": where no process has a view, and so of a file that has none.
+pub record NoViewsAccepted : Type 0 where
+  pub nobody : (v : Views) → ((i : ℕ) → Has v i → ⊥) → checkOf v ≡ found Nothing 0 0
+  pub none : (n : ℕ) → checkOf (noneOf n) ≡ found Nothing 0 0
+
+-- "A view is a set of (process, value) pairs, so 23 is a break of containment": of two views that disagree neither is inside the other.
+abbrev pub DisagreeIsApart : Type 0
+DisagreeIsApart = (v : Views) (i j : ℕ) → disagree (viewOf v i) (viewOf v j) ≡ true
+    → (Inside (Pair v i) (Pair v j) → ⊥) × (Inside (Pair v j) (Pair v i) → ⊥)
 
 -- "and otherwise names the first break in the fixed order". First 20: i is the lowest process whose view lacks it.
 pub record FirstAlone (v : Views) (i : ℕ) : Type 0 where
