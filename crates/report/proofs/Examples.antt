@@ -16,9 +16,10 @@ use Rattle.rules.proofs.Laws.Small.{cond-true}
 use Rattle.rules.proofs.Laws.Shape.{record-shaped}
 use Rattle.rules.proofs.Laws.Keeps.{meets-fresh, every-state-meets}
 use Rattle.rules.proofs.Laws.Bare.{inRange, bareStep, step-bare}
-use Rattle.files.specs.declared.FileAnswer.the-variants.{Whole}
+use Rattle.files.specs.declared.FileAnswer.the-variants.{Whole, OutOfRange}
 use Rattle.files.specs.declared.Header.{Header}
 use Rattle.files.specs.declared.Order.{Order}
+use Rattle.files.specs.Numbers.{numberOf}
 use Rattle.files.specs.Records.{markOf, markAt, headerOf, orderAt, viewAt}
 use Rattle.files.specs.ViewFile.{joined, testedAt, valuesRead, readFrom, readOf}
 use Rattle.findings.specs.Findings.{agree, inside, breaks, ofOne, ofPair, findings, checkOf}
@@ -28,10 +29,11 @@ use Rattle.orders.specs.declared.Replayed.{Replayed}
 use Rattle.orders.specs.Replays.{onward, replayBy, replayOf, ordersFrom}
 use Rattle.orders.specs.Turns.{none, counted, ends, resumed}
 use Rattle.orders.specs.Examples.{MN, printedFile}
+use Rattle.orders.proofs.Promises.{refused-header}
 use Rattle.orders.proofs.Turns.{resumed-took, resumed-ended, resumed-none}
-use Rattle.report.specs.Lines.{digitsIn, decimal, pair, pairsFrom, sightLine, processLine, runLine, partaking, lastLine}
+use Rattle.report.specs.Lines.{digitsIn, decimal, fields, line, run, pair, pairsFrom, sightLine, processLine, runLine, partaking, lastLine}
 use Rattle.report.specs.Lines.{replayLines, replayText, verdictLine, verdictText}
-use Rattle.report.specs.Examples.{Texts, printed, refusedHeader, unlike}
+use Rattle.report.specs.Examples.{Texts, printed, nobodyThere, refusedHeader, RefusedHeaderPrints, unlike}
 use Rattle.report.proofs.Digits.{decimal-below, decimal-above}
 use Rattle.report.proofs.Fits.{replay-short, replay-long, verdict-long}
 
@@ -98,9 +100,19 @@ printed-run : replayText printedFile ≡ printed
 unfolding headerOf markAt markOf
 printed-run = replay-short printedFile (lit≤ tt) ∙ ap replayLines (replay-bare printedFile 65535 2 refl (lit≤ tt) (lit≤ tt)) ∙ printed-lines
 
-refused-header : replayText (MN 33) ≡ refusedHeader
-unfolding replayText replayOf headerOf markAt markOf replayLines runLine joined processLine sightLine decimal digitsIn lastLine partaking count
-refused-header = refl
+nobody-there : joined 1 1 (processLine (fresh 1)) ++ lastLine (fresh 1) ≡ nobodyThere
+unfolding joined processLine sightLine decimal digitsIn lastLine partaking count
+nobody-there = refl
+
+pub refused-header-prints : RefusedHeaderPrints
+unfolding replayLines runLine
+refused-header-prints s a h e =
+    replay-short s h ∙ ap replayLines (refused-header s 65535 a e)
+    ∙ ap (λ (l : List ℕ). line (run ∷ fields (numberOf a ∷ 0 ∷ 0 ∷ 0 ∷ 0 ∷ []) ∷ []) ++ l) nobody-there
+
+refused-33 : replayText (MN 33) ≡ refusedHeader
+unfolding headerOf markAt markOf decimal digitsIn
+refused-33 = refused-header-prints (MN 33) OutOfRange (lit≤ tt) refl
 
 unlike-views : verdictText unlike ≡ 118 ∷ 101 ∷ 114 ∷ 100 ∷ 105 ∷ 99 ∷ 116 ∷ 32 ∷ 50 ∷ 50 ∷ 32 ∷ 51 ∷ 55 ∷ 32 ∷ 49 ∷ 32 ∷ 50 ∷ 10 ∷ []
 unfolding verdictText verdictLine decimal digitsIn verdictOf checkOf findings ofOne ofPair breaks agree inside joined readOf readFrom headerOf viewAt markAt markOf
@@ -126,7 +138,7 @@ pub texts : Texts
 texts =
     record {
       printed-run = printed-run;
-      refused-header = refused-header;
+      refused-header = refused-33;
       unlike-views = unlike-views;
       nothing = nothing;
       long-orders = replay-long;

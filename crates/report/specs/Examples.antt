@@ -1,11 +1,14 @@
 -- Printed texts: document 01's own, the lines of a refused header, `too long`, and verdicts.
-use Prim.Native.Nat.{ℕ, _<_}
+use Prim.Native.Nat.{ℕ, _≤_, _<_}
 use mathlib.Core.Path.{_≡_}
 use mathlib.Core.List.{List, [], _∷_, _++_}
 use lib.ListN.{length}
-use Rattle.files.specs.Records.{wordBytes}
+use Rattle.files.specs.declared.FileAnswer.{FileAnswer}
+use Rattle.files.specs.declared.Header.{Header}
+use Rattle.files.specs.Numbers.{numberOf}
+use Rattle.files.specs.Records.{headerOf, wordBytes}
 use Rattle.orders.specs.Examples.{MN, printedFile}
-use Rattle.report.specs.Lines.{decimal, replayText, verdictText}
+use Rattle.report.specs.Lines.{decimal, fields, line, run, replayText, verdictText}
 
 -- "run 0 47 12 9 1", "p 1 finished 1 6 1:7", "p 2 finished 2 3 1:7,2:9", "participants 2"
 abbrev pub printed : List ℕ
@@ -15,12 +18,20 @@ printed =
     ++ (112 ∷ 32 ∷ 50 ∷ 32 ∷ 102 ∷ 105 ∷ 110 ∷ 105 ∷ 115 ∷ 104 ∷ 101 ∷ 100 ∷ 32 ∷ 50 ∷ 32 ∷ 51 ∷ 32 ∷ 49 ∷ 58 ∷ 55 ∷ 44 ∷ 50 ∷ 58 ∷ 57 ∷ 10 ∷ [])
     ++ (112 ∷ 97 ∷ 114 ∷ 116 ∷ 105 ∷ 99 ∷ 105 ∷ 112 ∷ 97 ∷ 110 ∷ 116 ∷ 115 ∷ 32 ∷ 50 ∷ 10 ∷ [])
 
--- "run 8 0 0 0 0", "p 1 absent 0 0 -", "participants 0"
-abbrev pub refusedHeader : List ℕ
-refusedHeader =
-    (114 ∷ 117 ∷ 110 ∷ 32 ∷ 56 ∷ 32 ∷ 48 ∷ 32 ∷ 48 ∷ 32 ∷ 48 ∷ 32 ∷ 48 ∷ 10 ∷ [])
-    ++ (112 ∷ 32 ∷ 49 ∷ 32 ∷ 97 ∷ 98 ∷ 115 ∷ 101 ∷ 110 ∷ 116 ∷ 32 ∷ 48 ∷ 32 ∷ 48 ∷ 32 ∷ 45 ∷ 10 ∷ [])
+-- "p 1 absent 0 0 -", "participants 0"
+abbrev pub nobodyThere : List ℕ
+nobodyThere =
+    (112 ∷ 32 ∷ 49 ∷ 32 ∷ 97 ∷ 98 ∷ 115 ∷ 101 ∷ 110 ∷ 116 ∷ 32 ∷ 48 ∷ 32 ∷ 48 ∷ 32 ∷ 45 ∷ 10 ∷ [])
     ++ (112 ∷ 97 ∷ 114 ∷ 116 ∷ 105 ∷ 99 ∷ 105 ∷ 112 ∷ 97 ∷ 110 ∷ 116 ∷ 115 ∷ 32 ∷ 48 ∷ 10 ∷ [])
+
+-- "run 8 0 0 0 0", and those
+abbrev pub refusedHeader : List ℕ
+refusedHeader = (114 ∷ 117 ∷ 110 ∷ 32 ∷ 56 ∷ 32 ∷ 48 ∷ 32 ∷ 48 ∷ 32 ∷ 48 ∷ 32 ∷ 48 ∷ 10 ∷ []) ++ nobodyThere
+
+-- "A refused header prints the process line `p 1 absent 0 0 -`": every one, after the line `run`, its number, and 0 four times.
+abbrev pub RefusedHeaderPrints : Type 0
+RefusedHeaderPrints = (s : List ℕ) (a : FileAnswer) → length s ≤ 65535 → headerOf s ≡ Header.Fault a
+    → replayText s ≡ line (run ∷ fields (numberOf a ∷ 0 ∷ 0 ∷ 0 ∷ 0 ∷ []) ∷ []) ++ nobodyThere
 
 -- P10's file; its line is "verdict 22 37 1 2"
 abbrev pub unlike : List ℕ
