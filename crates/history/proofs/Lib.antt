@@ -11,5 +11,6 @@ pub mod Given
 pub mod Snapshot
 pub mod Alone
 pub mod Stays
+pub mod Looks
 pub mod Theorems
 pub mod Examples

@@ -1,5 +1,5 @@
 -- What specs/Theorems states, each under its own name.
-use Rattle.history.specs.Theorems.{StepIsFirstAccess, EnterIsStart, CrashIsEnd, ViewIsReturned, EveryStateShaped, NeverOneNorSeven}
+use Rattle.history.specs.Theorems.{StepIsFirstAccess, EnterIsStart, CrashIsEnd, ViewIsReturned, LookShowsView, EveryStateShaped, NeverOneNorSeven}
 use Rattle.history.specs.Theorems.{AloneNeverOneNorSeven, AcceptedWhileAccesses, AtMostXReachX}
 use Rattle.history.specs.Theorems.{ReachedIsReaches, ThreeProperties, ThreePropertiesOfSets, ViewsAreGiven, ExactSteps, EnoughSteps}
 use Rattle.history.specs.Theorems.{AccessesCounted, WaitFree, CrashedStays, WrittenStays}
@@ -13,6 +13,7 @@ use Rattle.history.proofs.Answers
 use Rattle.history.proofs.Snapshot
 use Rattle.history.proofs.Alone
 use Rattle.history.proofs.Stays
+use Rattle.history.proofs.Looks
 
 pub step-is-first-access : StepIsFirstAccess
 step-is-first-access = Figure.step-is-first-access
@@ -25,6 +26,9 @@ crash-is-end = Figure.crash-is-end
 
 pub view-is-returned : ViewIsReturned
 view-is-returned = Figure.view-is-returned
+
+pub look-shows-view : LookShowsView
+look-shows-view = Looks.look-shows-view
 
 pub every-state-shaped : EveryStateShaped
 every-state-shaped = Moves.every-state-shaped

@@ -4,14 +4,14 @@ use mathlib.Core.Logic.{_⊎_, _↔_, _≢_}
 use mathlib.Core.Bool.{Bool, true, false}
 use mathlib.Core.List.{List, _++_, List·Memᴰ}
 use Prim.Native.Nat.{ℕ, zero, suc, _+_, _-_, _*_, _≤_}
-use lib.ListN.{length, replicate}
+use lib.ListN.{length, getD, replicate}
 use Rattle.sets.specs.Sets.{has, count, within, size}
 use Rattle.sets.specs.Immediate.{Immediate}
 use Rattle.rules.specs.declared.Machine.{Machine}
 use Rattle.rules.specs.declared.Called.{Called}
 use Rattle.rules.specs.State.{processOf, stageOf, valueOf, entered, finished, crashed, foundOf, accessesOf}
 use Rattle.rules.specs.Shape.{Held, Shaped}
-use Rattle.rules.specs.Calls.{numberOf, accepted, fresh, enterOf, stepOf, crashOf, finishOf}
+use Rattle.rules.specs.Calls.{numberOf, accepted, fresh, enterOf, stepOf, crashOf, finishOf, lookOf}
 use Rattle.rules.specs.Statements.{Meets}
 use Rattle.history.specs.Runs.{Call, steps, answer, from, runs, tally, acceptedSteps, allSteps, acceptedCalls, refusedCalls, reached}
 use Rattle.history.specs.Runs.{Reaches, given}
@@ -60,6 +60,11 @@ pub record Returned (m : Machine) (p : ℕ) : Type 0 where
 
 abbrev pub ViewIsReturned : Type 0
 ViewIsReturned = (m : Machine) → Shaped m → (p : ℕ) → Has m p → Returned m p
+
+-- And it is what a look at the process gives, "if finished, its view": the same pairs, of any well shaped state.
+abbrev pub LookShowsView : Type 0
+LookShowsView = (m : Machine) → Shaped m → (i : ℕ) → Has m i → (j v : ℕ)
+    → View m i j v ↔ ((has (lookOf m i .view) j ≡ true) × (getD (lookOf m i .values) (j - 1) 0 ≡ v))
 
 -- Demand 3: "Take any list of enters, steps and crashes from a fresh machine of n tasks, refused calls among them."
 abbrev pub OfEveryRun : (ℕ → List Call → Type 0) → Type 0

@@ -2,8 +2,8 @@
 use mathlib.Core.Path.{_≡_, refl, sym, ap, ap₂, _∙_}
 use mathlib.Core.Bool.{Bool, cond}
 use mathlib.Core.List.{List}
-use Prim.Native.Nat.{ℕ, zero, suc, _+_, _-_, _*_, _≤_, _<_}
-use native.Mathlib.Nat.{mul-le-mul, add-zero, add-suc, suc-add}
+use Prim.Native.Nat.{ℕ, zero, suc, _+_, _-_, _*_, _≤_}
+use native.Mathlib.Nat.{mul-le-mul}
 use native.Mathlib.Omega.{arith}
 use lib.ListN.{length, getD, replicate}
 use lib.Seq.{ext-getD}
@@ -11,6 +11,7 @@ use Rattle.sets.specs.Sets.{has}
 use Rattle.sets.proofs.Laws.{has-zero}
 use Rattle.rules.specs.State.{cellIn}
 use Rattle.rules.specs.Calls.{rowValues}
+use Rattle.rules.proofs.Laws.Looks.{row-values-at}
 use Rattle.shape.proofs.Arrays.{getD-zeros, Upto}
 
 -- n is at most 32, so the accesses of a process are few
@@ -21,14 +22,6 @@ row-values-long : (values : List ℕ) (x w i k : ℕ) → length (rowValues valu
 unfolding rowValues
 row-values-long values x w i zero = refl
 row-values-long values x w i (suc k) = ap suc (row-values-long values x w (suc i) k)
-
-row-values-at : (values : List ℕ) (x w i k j : ℕ) → j < k → getD (rowValues values x w i k) j 0 ≡ cond (has w (i + j)) (cellIn values x (i + j)) 0
-unfolding rowValues
-row-values-at values x w i zero j h = absurd (let z : ⊥ = omega arith in z)
-row-values-at values x w i (suc k) zero h = ap (λ (p : ℕ). cond (has w p) (cellIn values x p) 0) (sym (add-zero i))
-row-values-at values x w i (suc k) (suc j) h =
-    row-values-at values x w (suc i) k j (omega arith)
-    ∙ ap (λ (p : ℕ). cond (has w p) (cellIn values x p) 0) (suc-add i j ∙ sym (add-suc i j))
 
 -- an array that holds at k what process k + 1's register shows is those values
 pub values-all : (values : List ℕ) (x w : ℕ) (out : List ℕ) → length out ≡ 32

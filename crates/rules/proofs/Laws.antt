@@ -12,5 +12,6 @@ pub mod Effects
 pub mod Accesses
 pub mod Alone
 pub mod Finishing
+pub mod Looks
 pub mod Bare
 pub mod Examples
