@@ -1,5 +1,5 @@
-// What both plain programs share: document 01's state as C has it, the order file, and the printed run. The file that includes this one defines
-// `machine` and the three orders on it. No header of the C library is needed: the kit has none.
+// What both plain programs share: document 01's state as C has it, the order file, and the printed run. The file that includes this one defines the
+// three orders on `machine`. No header of the C library is needed: the kit has none.
 typedef unsigned char u8;
 typedef unsigned int u32;
 typedef unsigned long word;

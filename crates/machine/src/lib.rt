@@ -13,12 +13,11 @@ use rules::Sight;
 use rules::Stage;
 use rules::Standing;
 ghost use mathlib.Core.Path.{_≡_};
-ghost use mathlib.Core.Bool.{_&&_, cond};
+ghost use mathlib.Core.Bool.{cond};
 ghost use Prim.Native.Nat.{_+_, _-_, _*_, _≤_};
-ghost use lib.Dec.{leb};
 ghost use Rattle.sets.specs.Sets.{has};
 ghost use Rattle.rules.specs.Shape.{shaped};
-ghost use Rattle.rules.specs.Calls.{newOf, fresh, enterOf, crashOf, stepOf, reading, finishOf, lookOf, blindly, rowValues};
+ghost use Rattle.rules.specs.Calls.{newOf, fresh, enterOf, crashOf, stepOf, finishOf, lookOf, blindly, rowValues};
 
 // A machine of n processes, none of which has entered.
 fn fresh(n: u32) -> Machine
@@ -140,7 +139,7 @@ pub fn crash(mut m: Machine, p: u32) -> Called
     }
 }
 
-// One register access of process p (rules 4 and 5); refuses 1, 2, 4, 5, 6, 7. One way out, so that the state is copied once.
+// One register access of process p (rules 4 and 5); refuses 1, 2, 4, 5, 6, 7. One way out, which costs a copy of the state less.
 pub fn step(mut m: Machine, p: u32) -> Called
     ensures { λ r. ⌜ r ≡ stepOf m p ⌝ }
 {

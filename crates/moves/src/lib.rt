@@ -25,6 +25,7 @@ pub enum Found {
     Refused(Answer),
 }
 
+// The process asked for; refuses 1, 2.
 pub fn find<'a>(
     n: u32,
     filled: &'a [u32; 32],
@@ -55,6 +56,7 @@ pub enum Mover {
     Refused(Answer),
 }
 
+// The process asked for, where it runs; refuses 1, 2, 4, 5, 6.
 pub fn find_running<'a>(
     n: u32,
     filled: &'a [u32; 32],
@@ -143,7 +145,7 @@ fn read(row: u32, j: u32, found: u32) -> u32
     found
 }
 
-// The move of process p: the first of its n + 1 accesses at a level writes (rule 4).
+// The move of process p: the first of its n + 1 accesses at a level writes (rule 4); refuses 1, 2, 4, 5, 6, 7.
 pub fn next_move<'a>(
     n: u32,
     filled: &'a [u32; 32],
