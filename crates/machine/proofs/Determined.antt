@@ -2,8 +2,6 @@
 use Rattle.sets.proofs.Determined.{Determined, one-value}
 use Rattle.machine.proofs.new.Kinds as new-kinds
 use Rattle.machine.proofs.new.Reads as new-reads
-use Rattle.machine.proofs.shaped.Kinds as shaped-kinds
-use Rattle.machine.proofs.shaped.Reads as shaped-reads
 use Rattle.machine.proofs.enter.Kinds as enter-kinds
 use Rattle.machine.proofs.enter.Reads as enter-reads
 use Rattle.machine.proofs.step.Kinds as step-kinds
@@ -17,9 +15,6 @@ use Rattle.machine.proofs.look.Reads as look-reads
 
 pub new-determined : Determined 0 new-kinds.ps new-kinds.r new-reads.Post
 new-determined κs a x y e e′ = one-value
-
-pub shaped-determined : Determined 0 shaped-kinds.ps shaped-kinds.r shaped-reads.Post
-shaped-determined κs a x y e e′ = one-value
 
 pub enter-determined : Determined 0 enter-kinds.ps enter-kinds.r enter-reads.Post
 enter-determined κs a x y e e′ = one-value

@@ -16,7 +16,6 @@ ghost use mathlib.Core.Path.{_≡_};
 ghost use mathlib.Core.Bool.{cond};
 ghost use Prim.Native.Nat.{_+_, _-_, _*_, _≤_};
 ghost use Rattle.sets.specs.Sets.{has};
-ghost use Rattle.rules.specs.Shape.{shaped};
 ghost use Rattle.rules.specs.Calls.{newOf, fresh, enterOf, crashOf, stepOf, finishOf, lookOf, blindly, rowValues};
 
 // A machine of n processes, none of which has entered.
@@ -54,14 +53,6 @@ pub fn new(n: u32) -> Called
         machine: fresh(n),
         answer: Answer::Done,
     }
-}
-
-// The machine is well shaped (document 01, "A state is well shaped if ..").
-pub fn shaped(m: Machine) -> bool
-    ensures { λ r. ⌜ r ≡ shaped m ⌝ }
-{
-    let processes = m.processes;
-    shape::shaped(m.n, &m.filled, &m.values, processes)
 }
 
 // Process p enters with value v (rule 3); refuses 1, 2, 3.

@@ -310,7 +310,8 @@ pub fn write_views(m: Machine, buffer: &mut [u8]) -> Written
     ensures { λ r. ⌜ r ≡ writeOf m (length (now (buffer .entry))) ⌝ }
     ensures { λ _. ⌜ now (buffer .exit) ≡ bufferOf m (now (buffer .entry)) ⌝ }
 {
-    if !machine::shaped(m) {
+    let processes = m.processes;
+    if !shape::shaped(m.n, &m.filled, &m.values, processes) {
         return Written {
             answer: WriteAnswer::NotShaped,
             bytes: 0,
