@@ -18,25 +18,25 @@ fn show(v: FileVerdict) {
 
 fn main() {
     // views 1:{1,4}, 2:{1,2,3,4}, 3:{3,4}, n = 4, values agreeing: 21 for 1 and 3
-    show(views::verdict(
+    show(checker::verdict(
         b"MN\x04VW\x01\x09\x00\x00\x00\x0a\x00\x00\x00(\x00\x00\x00VW\x02\x0f\x00\x00\x00\x0a\x00\x00\x00\x14\x00\x00\x00\x1e\x00\x00\x00(\x00\x00\x00VW\x03\x0c\x00\x00\x00\x1e\x00\x00\x00(\x00\x00\x00",
     ));
     // views 1:{1,2}, 2:{1,2,3}, n = 3, values agreeing: 22 for 1 and 2
-    show(views::verdict(
+    show(checker::verdict(
         b"MN\x03VW\x01\x03\x00\x00\x00\x0a\x00\x00\x00\x14\x00\x00\x00VW\x02\x07\x00\x00\x00\x0a\x00\x00\x00\x14\x00\x00\x00\x1e\x00\x00\x00",
     ));
     // no views at all is accepted
-    show(views::verdict(b"MN\x05"));
+    show(checker::verdict(b"MN\x05"));
     // an empty view lacks its own process: 20 for 3
-    show(views::verdict(b"MN\x05VW\x03\x00\x00\x00\x00"));
+    show(checker::verdict(b"MN\x05VW\x03\x00\x00\x00\x00"));
     // one process, different values: 23 for 1 and 2
-    show(views::verdict(
+    show(checker::verdict(
         b"MN\x02VW\x01\x03\x00\x00\x00\x07\x00\x00\x00\x09\x00\x00\x00VW\x02\x03\x00\x00\x00\x07\x00\x00\x00\x08\x00\x00\x00",
     ));
     // lists that nest
-    show(views::verdict(
+    show(checker::verdict(
         b"MN\x02VW\x01\x01\x00\x00\x00\x07\x00\x00\x00VW\x02\x03\x00\x00\x00\x07\x00\x00\x00\x09\x00\x00\x00",
     ));
     // the last value cut off: 11 at the record
-    show(views::verdict(b"MN\x02VW\x01\x01\x00\x00\x00\x07\x00\x00"));
+    show(checker::verdict(b"MN\x02VW\x01\x01\x00\x00\x00\x07\x00\x00"));
 }

@@ -1,4 +1,4 @@
--- Each public function's contract determines its answer: two answers that meet it are equal.
+-- Each public function's contract determines its answer (document 01, "How much a contract must say"): two answers that meet it are equal.
 use Rattle.sets.proofs.Determined.{Determined, one-value}
 use Rattle.machine.proofs.new.Kinds as new-kinds
 use Rattle.machine.proofs.new.Reads as new-reads
@@ -8,10 +8,6 @@ use Rattle.machine.proofs.step.Kinds as step-kinds
 use Rattle.machine.proofs.step.Reads as step-reads
 use Rattle.machine.proofs.crash.Kinds as crash-kinds
 use Rattle.machine.proofs.crash.Reads as crash-reads
-use Rattle.machine.proofs.finish.Kinds as finish-kinds
-use Rattle.machine.proofs.finish.Reads as finish-reads
-use Rattle.machine.proofs.look.Kinds as look-kinds
-use Rattle.machine.proofs.look.Reads as look-reads
 
 pub new-determined : Determined 0 new-kinds.ps new-kinds.r new-reads.Post
 new-determined κs a x y e e′ = one-value
@@ -24,9 +20,3 @@ step-determined κs a x y e e′ = one-value
 
 pub crash-determined : Determined 0 crash-kinds.ps crash-kinds.r crash-reads.Post
 crash-determined κs a x y e e′ = one-value
-
-pub finish-determined : Determined 0 finish-kinds.ps finish-kinds.r finish-reads.Post
-finish-determined κs a x y e e′ = one-value
-
-pub look-determined : Determined 0 look-kinds.ps look-kinds.r look-reads.Post
-look-determined κs a x y e e′ = one-value

@@ -101,7 +101,7 @@ pub fn verdict_text(bytes: &[u8], out: &mut [u8; 64]) -> usize
     if 65535 < bytes.len() {
         return put_word(out, 0, b"too long\n");
     }
-    let v = views::verdict(bytes);
+    let v = checker::verdict(bytes);
     put_verdict(out, 0, v)
 }
 
@@ -196,7 +196,7 @@ fn put_processes(out: &mut [u8], at: usize, m: Machine) -> usize
     let mut i: u32 = 0;
     while i < n {
         i += 1;
-        let s = machine::look(m, i);
+        let s = sight::look(m, i);
         place = put_sight(out, place, i, s);
     }
     place

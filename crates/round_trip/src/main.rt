@@ -57,7 +57,7 @@ fn main() {
     let m = r.machine;
     let mut exact = [0u8; 29];
     show_written(orders::write_views(m, &mut exact));
-    show_verdict(views::verdict(&exact));
+    show_verdict(checker::verdict(&exact));
     let mut short = [0u8; 28];
     show_written(orders::write_views(m, &mut short));
 }

@@ -59,7 +59,7 @@ fn print_pair(view: u32, i: u32, value: u32) {
 
 // Process p of the run's two, as a look at it gives it.
 fn print_look(m: Machine, p: u32) {
-    let s = machine::look(m, p);
+    let s = sight::look(m, p);
     let standing = s.standing;
     let values = s.values;
     io::write_all(STDOUT_FILENO, b"p ");

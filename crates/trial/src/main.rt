@@ -87,7 +87,7 @@ fn call(m: Machine, letter: u8, p: u32, v: u32) -> Called {
         b'e' => machine::enter(m, p, v),
         b's' => machine::step(m, p),
         b'c' => machine::crash(m, p),
-        b'f' => machine::finish(m, p),
+        b'f' => alone::finish(m, p),
         _ => crowded(),
     }
 }
@@ -138,7 +138,7 @@ fn obey(m: Machine, line: [u8; 6]) -> Machine {
     io::write_all(STDOUT_FILENO, &line);
     io::write_all(STDOUT_FILENO, b"  ");
     if letter == b'l' {
-        print_look(machine::look(m, p));
+        print_look(sight::look(m, p));
         return m;
     }
     let c = call(m, letter, p, digit(line[5]));

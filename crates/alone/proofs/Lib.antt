@@ -1,0 +1,4 @@
+-- What belongs to no one function.
+pub mod Typed
+pub mod Descent
+pub mod Determined
