@@ -150,12 +150,7 @@ pub fn header_of(s: &[u8]) -> Header
     match mark_at(s, 0) {
         Mark::Cut => Header::Fault(FileAnswer::MarkCut),
         Mark::Header => header_body(s),
-        Mark::End => Header::Fault(FileAnswer::NotHeader),
-        Mark::Enter => Header::Fault(FileAnswer::NotHeader),
-        Mark::Step => Header::Fault(FileAnswer::NotHeader),
-        Mark::Crash => Header::Fault(FileAnswer::NotHeader),
-        Mark::View => Header::Fault(FileAnswer::NotHeader),
-        Mark::Other => Header::Fault(FileAnswer::NotHeader),
+        _ => Header::Fault(FileAnswer::NotHeader),
     }
 }
 
@@ -268,11 +263,8 @@ pub fn view_at(s: &[u8], at: usize) -> ViewRecord
         Mark::End => ViewRecord::End,
         Mark::Cut => ViewRecord::Fault(FileAnswer::MarkCut),
         Mark::Header => ViewRecord::Fault(FileAnswer::HeaderAgain),
-        Mark::Enter => ViewRecord::Fault(FileAnswer::OtherMark),
-        Mark::Step => ViewRecord::Fault(FileAnswer::OtherMark),
-        Mark::Crash => ViewRecord::Fault(FileAnswer::OtherMark),
         Mark::View => view_body(s, at),
-        Mark::Other => ViewRecord::Fault(FileAnswer::OtherMark),
+        _ => ViewRecord::Fault(FileAnswer::OtherMark),
     }
 }
 

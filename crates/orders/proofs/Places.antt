@@ -4,10 +4,13 @@ use mathlib.Core.Bool.{Bool, true, false, cond}
 use mathlib.Core.Path.{_≡_, refl, sym, ap, ap₂, _∙_, subst}
 use mathlib.Core.List.{List, [], _∷_, _++_, append-assoc}
 use native.Mathlib.Omega.{arith}
+use types.Run.{OneOf, miss}
+use denote.Enum.Declared.{tagOf}
 use lib.ListN.{length, getD, set, drop, length-set, length-append}
 use lib.Seq.{set-append-seam}
 use Rattle.sets.specs.Sets.{has, count, size, tick}
 use Rattle.sets.proofs.Laws.{count-le}
+use Rattle.rules.proofs.Stage.{the-type}
 use Rattle.rules.specs.declared.Stage.{Stage}
 use Rattle.rules.specs.declared.Stage.the-variants.{Absent, Running, Finished, Crashed}
 use Rattle.rules.specs.declared.Machine.{Machine}
@@ -170,10 +173,16 @@ put-record values b b₁ b₂ b₃ at p x w e f g =
     ∙ sym (put-append b at (86 ∷ 87 ∷ p ∷ []) (wordBytes w ++ J))
 
 -- a process that has not finished has no record
-pub no-record : (values b : List ℕ) (at p : ℕ) (s t : Stage) → s ≡ t → stageBytes values p t ≡ [] → recordLength t ≡ 0
+pub unfinished : (values : List ℕ) (p : ℕ) (s : Stage) → OneOf (0 ∷ 1 ∷ 3 ∷ []) (tagOf the-type s) → (0 ≡ recordLength s) × ([] ≡ stageBytes values p s)
+unfinished values p Absent h = (refl, refl)
+unfinished values p (Running x k f) h = (refl, refl)
+unfinished values p (Finished x w) h = absurd (miss (0 ∷ 1 ∷ 3 ∷ []) 2 tt h)
+unfinished values p (Crashed x k f) h = (refl, refl)
+
+pub no-record : (values b : List ℕ) (at p : ℕ) (s : Stage) → OneOf (0 ∷ 1 ∷ 3 ∷ []) (tagOf the-type s)
     → (at ≡ at + recordLength s) × (b ≡ put b at (stageBytes values p s))
 unfolding put
-no-record values b at p s t e n z = (omega (arith, ap recordLength e), sym (ap (put b at) (ap (stageBytes values p) e ∙ n)))
+no-record values b at p s h = let e = unfinished values p s h in (omega (arith, e .0), ap (put b at) (e .1))
 
 -- a finished process of a well shaped machine has a level from 1 to 32
 lands-by : (n : ℕ) (row : ℕ → ℕ) (s : Stage) → n ≤ 32 → ShapedStage n row s → Lands s

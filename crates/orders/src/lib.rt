@@ -55,14 +55,7 @@ fn accepted(a: Answer) -> bool
 {
     match a {
         Answer::Done => true,
-        Answer::NotShaped => false,
-        Answer::NoProcess => false,
-        Answer::EnteredBefore => false,
-        Answer::NeverEntered => false,
-        Answer::HasCrashed => false,
-        Answer::HasFinished => false,
-        Answer::NotAlone => false,
-        Answer::OutOfRange => false,
+        _ => false,
     }
 }
 
@@ -183,18 +176,8 @@ fn record_len(stage: Stage) -> usize
     ensures { λ r. ⌜ r ≡ recordLength stage ⌝ }
 {
     match stage {
-        Stage::Absent => 0,
-        Stage::Running {
-            level: _,
-            made: _,
-            found: _,
-        } => 0,
         Stage::Finished { level: _, view } => 7 + 4 * (sets::size(view) as usize),
-        Stage::Crashed {
-            level: _,
-            made: _,
-            found: _,
-        } => 0,
+        _ => 0,
     }
 }
 
@@ -271,18 +254,8 @@ fn put_process(buffer: &mut [u8], at: usize, values: &[u32; 1024], p: u32, stage
     ensures { λ _. ⌜ now (buffer .exit) ≡ put (now (buffer .entry)) at (stageBytes (now (values .entry)) p stage) ⌝ }
 {
     match stage {
-        Stage::Absent => at,
-        Stage::Running {
-            level: _,
-            made: _,
-            found: _,
-        } => at,
         Stage::Finished { level, view } => put_view(buffer, at, values, p, level, view),
-        Stage::Crashed {
-            level: _,
-            made: _,
-            found: _,
-        } => at,
+        _ => at,
     }
 }
 
@@ -310,8 +283,7 @@ pub fn write_views(m: Machine, buffer: &mut [u8]) -> Written
     ensures { λ r. ⌜ r ≡ writeOf m (length (now (buffer .entry))) ⌝ }
     ensures { λ _. ⌜ now (buffer .exit) ≡ bufferOf m (now (buffer .entry)) ⌝ }
 {
-    let processes = m.processes;
-    if !shape::shaped(m.n, &m.filled, &m.values, processes) {
+    if !shape::shaped(m.n, &m.filled, &m.values, m.processes) {
         return Written {
             answer: WriteAnswer::NotShaped,
             bytes: 0,

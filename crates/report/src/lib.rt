@@ -162,10 +162,8 @@ fn put_view(out: &mut [u8], at: usize, s: Standing, w: u32, values: [u32; 32]) -
     ensures { λ r. ⌜ Stored (now (out .entry)) at (view s w values) (now (out .exit)) r ⌝ }
 {
     match s {
-        Standing::Absent => put_byte(out, at, 45),
-        Standing::Running => put_byte(out, at, 45),
         Standing::Finished => put_pairs(out, at, w, values),
-        Standing::Crashed => put_byte(out, at, 45),
+        _ => put_byte(out, at, 45),
     }
 }
 

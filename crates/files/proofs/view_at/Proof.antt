@@ -1,9 +1,17 @@
 -- `files::view_at` meets its contract: each arm is the definition at the mark that was found.
-use mathlib.Core.Path.{_≡_, sym, ap, _∙_}
+use mathlib.Core.Path.{_≡_, refl, sym, ap, _∙_}
+use mathlib.Core.List.{List, [], _∷_}
+use Prim.Native.Nat.{ℕ}
+use types.Run.{OneOf, miss}
+use denote.Enum.Declared.{tagOf}
 use denote.Ref.{now}
 use borrow.Author.Needs.{needs}
 use Rattle.files.specs.declared.Mark.{Mark}
+use Rattle.files.specs.declared.Mark.the-variants.{End, Cut, Header, Enter, Step, Crash, View, Other}
+use Rattle.files.specs.declared.FileAnswer.the-variants.{OtherMark}
+use Rattle.files.specs.declared.ViewRecord.the-variants.{Fault}
 use Rattle.files.specs.Records.{viewBy, viewAt}
+use Rattle.files.proofs.Mark.{the-type}
 use Rattle.files.proofs.view_at.Statement.{statement}
 use Rattle.files.proofs.view_at.Tie as tie
 
@@ -22,25 +30,24 @@ enum-told-3 c = search needs
 enum-told-4 : tie.Need-enum-told-4
 enum-told-4 c = search needs
 
-enum-told-5 : tie.Need-enum-told-5
-enum-told-5 c = search needs
-
-enum-told-6 : tie.Need-enum-told-6
-enum-told-6 c = search needs
-
-enum-told-7 : tie.Need-enum-told-7
-enum-told-7 c = search needs
-
 view-body-requires : tie.Need-view-body-requires
 view-body-requires c κs = search needs
-
-enum-told-8 : tie.Need-enum-told-8
-enum-told-8 c = search needs
 
 -- what stands there, by the mark that was found
 at-mark : (d : tie.After-mark-at) (m : Mark) → d .mark-at .result ≡ m → viewBy (now (d .before .before .args .s)) (d .before .before .args .at) m ≡ viewAt (now (d .before .before .args .s)) (d .before .before .args .at)
 unfolding viewAt
 at-mark d m e = ap (viewBy (now (d .before .before .args .s)) (d .before .before .args .at)) (sym e ∙ d .mark-at .ensures)
+
+-- a mark that is not of a view file
+foreign : (s : List ℕ) (at : ℕ) (m : Mark) → OneOf (3 ∷ 4 ∷ 5 ∷ 7 ∷ []) (tagOf the-type m) → Fault OtherMark ≡ viewBy s at m
+foreign s at End h = absurd (miss (3 ∷ 4 ∷ 5 ∷ 7 ∷ []) 0 tt h)
+foreign s at Cut h = absurd (miss (3 ∷ 4 ∷ 5 ∷ 7 ∷ []) 1 tt h)
+foreign s at Header h = absurd (miss (3 ∷ 4 ∷ 5 ∷ 7 ∷ []) 2 tt h)
+foreign s at Enter h = refl
+foreign s at Step h = refl
+foreign s at Crash h = refl
+foreign s at View h = absurd (miss (3 ∷ 4 ∷ 5 ∷ 7 ∷ []) 6 tt h)
+foreign s at Other h = refl
 
 returns : tie.Need-returns
 returns c = at-mark (c .before .before) _ (c .enum-told .given .1)
@@ -52,19 +59,10 @@ returns-3 : tie.Need-returns-3
 returns-3 c = at-mark (c .before .before) _ (c .enum-told3 .given .1)
 
 returns-4 : tie.Need-returns-4
-returns-4 c = at-mark (c .before .before) _ (c .enum-told4 .given .1)
+returns-4 c = c .view-body .ensures ∙ at-mark (c .before .before .before) _ (c .before .enum-told4 .given .1)
 
 returns-5 : tie.Need-returns-5
-returns-5 c = at-mark (c .before .before) _ (c .enum-told5 .given .1)
-
-returns-6 : tie.Need-returns-6
-returns-6 c = at-mark (c .before .before) _ (c .enum-told6 .given .1)
-
-returns-7 : tie.Need-returns-7
-returns-7 c = c .view-body .ensures ∙ at-mark (c .before .before .before) _ (c .before .enum-told7 .given .1)
-
-returns-8 : tie.Need-returns-8
-returns-8 c = at-mark (c .before .before) _ (c .enum-told8 .given .1)
+returns-5 c = foreign _ _ (c .before .mark-at .result) (c .match .keys5) ∙ at-mark (c .before) _ refl
 
 pub view-at-spec : {M : Type 1} → statement M
 view-at-spec =
@@ -75,16 +73,9 @@ view-at-spec =
     enum-told-2
     enum-told-3
     enum-told-4
-    enum-told-5
-    enum-told-6
-    enum-told-7
     view-body-requires
-    enum-told-8
     returns
     returns-2
     returns-3
     returns-4
-    returns-5
-    returns-6
-    returns-7
-    returns-8)
+    returns-5)

@@ -1,8 +1,15 @@
--- `orders::accepted` meets its contract.
-use mathlib.Core.Path.{sym, ap}
+-- `orders::accepted` meets its contract: no other answer has the number 0.
+use Prim.Native.Nat.{ℕ}
+use mathlib.Core.Bool.{false}
+use mathlib.Core.Path.{_≡_, refl, sym, ap}
+use mathlib.Core.List.{[], _∷_}
+use types.Run.{OneOf, miss}
+use denote.Enum.Declared.{tagOf}
 use lib.Dec.{eqb}
 use Rattle.rules.specs.declared.Answer.{Answer}
+use Rattle.rules.specs.declared.Answer.the-variants.{Done, NotShaped, NoProcess, EnteredBefore, NeverEntered, HasCrashed, HasFinished, NotAlone, OutOfRange}
 use Rattle.rules.specs.Calls.{numberOf}
+use Rattle.rules.proofs.Answer.{the-type}
 use borrow.Author.Needs.{needs}
 use Rattle.orders.proofs.accepted.Statement.{statement}
 use Rattle.orders.proofs.accepted.Tie as tie
@@ -10,76 +17,22 @@ use Rattle.orders.proofs.accepted.Tie as tie
 enum-told : tie.Need-enum-told
 enum-told c = search needs
 
-enum-told-2 : tie.Need-enum-told-2
-enum-told-2 c = search needs
-
-enum-told-3 : tie.Need-enum-told-3
-enum-told-3 c = search needs
-
-enum-told-4 : tie.Need-enum-told-4
-enum-told-4 c = search needs
-
-enum-told-5 : tie.Need-enum-told-5
-enum-told-5 c = search needs
-
-enum-told-6 : tie.Need-enum-told-6
-enum-told-6 c = search needs
-
-enum-told-7 : tie.Need-enum-told-7
-enum-told-7 c = search needs
-
-enum-told-8 : tie.Need-enum-told-8
-enum-told-8 c = search needs
-
-enum-told-9 : tie.Need-enum-told-9
-enum-told-9 c = search needs
+refused : (a : Answer) → OneOf (1 ∷ 2 ∷ 3 ∷ 4 ∷ 5 ∷ 6 ∷ 7 ∷ 8 ∷ []) (tagOf the-type a) → false ≡ eqb (numberOf a) 0
+refused Done h = absurd (miss (1 ∷ 2 ∷ 3 ∷ 4 ∷ 5 ∷ 6 ∷ 7 ∷ 8 ∷ []) 0 tt h)
+refused NotShaped h = refl
+refused NoProcess h = refl
+refused EnteredBefore h = refl
+refused NeverEntered h = refl
+refused HasCrashed h = refl
+refused HasFinished h = refl
+refused NotAlone h = refl
+refused OutOfRange h = refl
 
 returns : tie.Need-returns
 returns c = ap (λ (x : Answer). eqb (numberOf x) 0) (sym (c .enum-told .given .1))
 
 returns-2 : tie.Need-returns-2
-returns-2 c = ap (λ (x : Answer). eqb (numberOf x) 0) (sym (c .enum-told2 .given .1))
-
-returns-3 : tie.Need-returns-3
-returns-3 c = ap (λ (x : Answer). eqb (numberOf x) 0) (sym (c .enum-told3 .given .1))
-
-returns-4 : tie.Need-returns-4
-returns-4 c = ap (λ (x : Answer). eqb (numberOf x) 0) (sym (c .enum-told4 .given .1))
-
-returns-5 : tie.Need-returns-5
-returns-5 c = ap (λ (x : Answer). eqb (numberOf x) 0) (sym (c .enum-told5 .given .1))
-
-returns-6 : tie.Need-returns-6
-returns-6 c = ap (λ (x : Answer). eqb (numberOf x) 0) (sym (c .enum-told6 .given .1))
-
-returns-7 : tie.Need-returns-7
-returns-7 c = ap (λ (x : Answer). eqb (numberOf x) 0) (sym (c .enum-told7 .given .1))
-
-returns-8 : tie.Need-returns-8
-returns-8 c = ap (λ (x : Answer). eqb (numberOf x) 0) (sym (c .enum-told8 .given .1))
-
-returns-9 : tie.Need-returns-9
-returns-9 c = ap (λ (x : Answer). eqb (numberOf x) 0) (sym (c .enum-told9 .given .1))
+returns-2 c = refused (c .before .args .a) (c .match .keys2)
 
 pub accepted-spec : {M : Type 1} → statement M
-accepted-spec =
-    tie.close
-    (tie.spec
-    enum-told
-    enum-told-2
-    enum-told-3
-    enum-told-4
-    enum-told-5
-    enum-told-6
-    enum-told-7
-    enum-told-8
-    enum-told-9
-    returns
-    returns-2
-    returns-3
-    returns-4
-    returns-5
-    returns-6
-    returns-7
-    returns-8
-    returns-9)
+accepted-spec = tie.close (tie.spec enum-told returns returns-2)

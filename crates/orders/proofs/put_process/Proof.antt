@@ -1,6 +1,6 @@
 -- `orders::put_process` meets its contract: each arm is the definition at the stage that was found.
 use Prim.Native.Nat.{_+_}
-use mathlib.Core.Path.{refl, sym, ap, _∙_, subst}
+use mathlib.Core.Path.{sym, ap, _∙_, subst}
 use denote.Ref.{now}
 use native.Mathlib.Omega.{arith}
 use Rattle.rules.specs.declared.Stage.{Stage}
@@ -9,12 +9,6 @@ use Rattle.orders.proofs.Places.{no-record}
 use borrow.Author.Needs.{needs}
 use Rattle.orders.proofs.put_process.Statement.{statement}
 use Rattle.orders.proofs.put_process.Tie as tie
-
-enum-told : tie.Need-enum-told
-enum-told c = search needs
-
-enum-told-2 : tie.Need-enum-told-2
-enum-told-2 c = search needs
 
 enum-known-stage : tie.Need-enum-known-stage
 enum-known-stage c = search needs
@@ -26,46 +20,21 @@ put-view-requires c κs =
     let l = subst Lands (g .1) (a .pre .1) in
     (omega (arith, a .pre .0, ap recordLength (g .1)), l .0, l .1, a .pre .2)
 
-enum-told-3 : tie.Need-enum-told-3
-enum-told-3 c = search needs
-
-returns : tie.Need-returns
-returns c =
-    let a = c .before .before .before .args in
-    no-record (now (a .values)) (now (a .buffer)) (a .at) (a .p) (a .stage) _ (c .enum-told .given .1) refl refl
-
-returns-2 : tie.Need-returns-2
-returns-2 c =
-    let a = c .before .before .before .args in
-    no-record (now (a .values)) (now (a .buffer)) (a .at) (a .p) (a .stage) _ (c .enum-told2 .given .1) refl refl
-
 same-length : tie.Need-same-length
 same-length c = search needs
 
-returns-3 : tie.Need-returns-3
-returns-3 c =
+returns : tie.Need-returns
+returns c =
     let a = c .before .before .before .before .before .before .before .before .args in
     let g = c .before .before .before .before .before .stage .given in (
       c .before .before .put-view .ensures .0 ∙ sym (ap (λ (s : Stage). a .at + recordLength s) (g .1)),
       c .before .before .put-view .ensures .1 ∙ sym (ap (λ (s : Stage). put (now (a .buffer)) (a .at) (stageBytes (now (a .values)) (a .p) s)) (g .1)),
     )
 
-returns-4 : tie.Need-returns-4
-returns-4 c =
-    let a = c .before .before .before .args in
-    no-record (now (a .values)) (now (a .buffer)) (a .at) (a .p) (a .stage) _ (c .enum-told3 .given .1) refl refl
+returns-2 : tie.Need-returns-2
+returns-2 c =
+    let a = c .before .before .args in
+    no-record (now (a .values)) (now (a .buffer)) (a .at) (a .p) (a .stage) (c .match .keys2)
 
 pub put-process-spec : {M : Type 1} → statement M
-put-process-spec =
-    tie.close
-    (tie.spec
-    enum-told
-    enum-told-2
-    enum-known-stage
-    put-view-requires
-    enum-told-3
-    returns
-    returns-2
-    same-length
-    returns-3
-    returns-4)
+put-process-spec = tie.close (tie.spec enum-known-stage put-view-requires same-length returns returns-2)

@@ -1,16 +1,12 @@
 -- `orders::record_len` meets its contract.
 use Prim.Native.Nat.{ℕ, _+_, _*_}
 use mathlib.Core.Path.{_∙_, sym, ap}
+use mathlib.Core.List.{[]}
 use Rattle.orders.specs.Places.{recordLength}
+use Rattle.orders.proofs.Places.{unfinished}
 use borrow.Author.Needs.{needs}
 use Rattle.orders.proofs.record_len.Statement.{statement}
 use Rattle.orders.proofs.record_len.Tie as tie
-
-enum-told : tie.Need-enum-told
-enum-told c = search needs
-
-enum-told-2 : tie.Need-enum-told-2
-enum-told-2 c = search needs
 
 enum-known-stage : tie.Need-enum-known-stage
 enum-known-stage c = search needs
@@ -27,34 +23,11 @@ mul-result c = search needs
 add-result : tie.Need-add-result
 add-result c = search needs
 
-enum-told-3 : tie.Need-enum-told-3
-enum-told-3 c = search needs
-
 returns : tie.Need-returns
-returns c = search needs
+returns c = ap (λ (k : ℕ). 7 + 4 * k) (c .size .ensures) ∙ ap recordLength (sym (c .before .before .stage .given .1))
 
 returns-2 : tie.Need-returns-2
-returns-2 c = search needs
-
-returns-3 : tie.Need-returns-3
-returns-3 c = ap (λ (k : ℕ). 7 + 4 * k) (c .size .ensures) ∙ ap recordLength (sym (c .before .before .stage .given .1))
-
-returns-4 : tie.Need-returns-4
-returns-4 c = search needs
+returns-2 c = unfinished [] 0 (c .before .args .stage) (c .match .keys2) .0
 
 pub record-len-spec : {M : Type 1} → statement M
-record-len-spec =
-    tie.close
-    (tie.spec
-    enum-told
-    enum-told-2
-    enum-known-stage
-    size-requires
-    cast-result
-    mul-result
-    add-result
-    enum-told-3
-    returns
-    returns-2
-    returns-3
-    returns-4)
+record-len-spec = tie.close (tie.spec enum-known-stage size-requires cast-result mul-result add-result returns returns-2)
