@@ -1,4 +1,3 @@
 -- What belongs to no one function.
-pub mod Typed
 pub mod Descent
 pub mod Determined

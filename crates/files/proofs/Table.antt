@@ -20,7 +20,8 @@ use Rattle.files.specs.declared.ViewRecord.the-variants.{End, Fault, Vie
 use Rattle.files.specs.Numbers.{numberOf}
 use Rattle.files.specs.Records.{byteAt, wordAt, isMark, markOf, markAt, fits, headerBy, headerOf, viewBy, viewAt}
 use Rattle.files.specs.ViewFile.{valuesFit, testedBy, testedAt}
-use Rattle.files.specs.Table.{when, firstThat, headerLines, recordLines}
+use Rattle.sets.specs.Lines.{when, firstThat}
+use Rattle.files.specs.Table.{headerLines, recordLines}
 
 -- a failed order is the other order
 not-leb : (a b c : ℕ) → a ≡ c → not (leb a b) ≡ ltb b c

@@ -20,7 +20,8 @@ use Rattle.files.specs.Numbers.{numberOf, accepted}
 use Rattle.files.specs.Records.{headerOf}
 use Rattle.files.specs.Views.{noneOf, InRange}
 use Rattle.files.specs.ViewFile.{testedAt, withView, refusedAt, readWhole, onward, readFrom, readBy, readOf}
-use Rattle.files.specs.Table.{firstThat, recordLines, Reached, start, more, Refusal, RefusedExactly, ReadExactly}
+use Rattle.sets.specs.Lines.{firstThat}
+use Rattle.files.specs.Table.{recordLines, Reached, start, more, Refusal, RefusedExactly, ReadExactly}
 use Rattle.files.specs.Promises.{Bytes, ReadInRange, ReadPlace, RefusedGivesNone}
 use Rattle.files.proofs.Reading.{passed, opened}
 use Rattle.files.proofs.Turns.{read-end, read-fault, read-view}

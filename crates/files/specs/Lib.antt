@@ -5,3 +5,4 @@ pub mod Views
 pub mod ViewFile
 pub mod Table
 pub mod Promises
+pub mod Examples

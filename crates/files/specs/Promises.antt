@@ -1,4 +1,4 @@
--- What the two definitions of a view file promise of each other. `proofs/` proves each, under the same name with a small first letter.
+-- What the two definitions of a view file promise of each other. `proofs/` proves each, under the same name in small letters, with hyphens.
 use Prim.Native.Nat.{ℕ, _<_}
 use mathlib.Core.Bool.{true, false}
 use mathlib.Core.Path.{_≡_}

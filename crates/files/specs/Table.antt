@@ -1,13 +1,14 @@
 -- Document 01's numbers 8 to 12 and 14 to 16 of a view file, apart from the definition of reading: when each applies at a record, in the order in
 -- which they are looked for. "The place is the offset of the record's mark."
 use Prim.Native.Nat.{ℕ, _+_, _*_, _<_}
-use mathlib.Core.Bool.{Bool, not, _&&_, cond}
+use mathlib.Core.Bool.{not, _&&_}
 use mathlib.Core.Path.{_≡_}
 use mathlib.Core.Logic.{_⊎_, _↔_, _≢_}
 use mathlib.Core.List.{List, [], _∷_}
 use lib.Dec.{leb, ltb, eqb}
 use lib.ListN.{length}
 use Rattle.sets.specs.Sets.{has, first, within, size}
+use Rattle.sets.specs.Lines.{Line, when, firstThat}
 use Rattle.files.specs.declared.Header.{Header}
 use Rattle.files.specs.declared.ViewRecord.{ViewRecord}
 use Rattle.files.specs.declared.Views.{Views}
@@ -15,18 +16,6 @@ use Rattle.files.specs.Numbers.{numberOf}
 use Rattle.files.specs.Records.{byteAt, wordAt, isMark, headerOf}
 use Rattle.files.specs.Views.{noneOf}
 use Rattle.files.specs.ViewFile.{testedAt, withView, readWhole, readOf}
-
-pub record Line : Type 0 where
-  pub number : ℕ
-  pub applies : Bool
-
-abbrev pub when : ℕ → Bool → Line
-when k b = record { number = k; applies = b }
-
--- the first line that applies, or 0
-abbrev pub firstThat : List Line → ℕ
-firstThat [] = 0
-firstThat (l ∷ ls) = cond (l .applies) (l .number) (firstThat ls)
 
 -- the first record
 abbrev pub headerLines : List ℕ → List Line

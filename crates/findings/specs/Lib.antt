@@ -2,3 +2,4 @@
 pub mod Findings
 pub mod Verdict
 pub mod Properties
+pub mod Examples

@@ -2,7 +2,7 @@
 use mathlib.Core.Path.{_≡_, refl, sym, ap, subst, _∙_}
 use mathlib.Core.Logic.{_⊎_, inl, inr, _≢_}
 use mathlib.Core.Bool.{Bool, true, false, _&&_, false≢true}
-use mathlib.Core.List.{List, [], _∷_, _++_, append-assoc}
+use mathlib.Core.List.{List, _++_, append-assoc}
 use Prim.Native.Nat.{ℕ, zero, suc, _+_, _-_, _*_, _≤_}
 use native.Mathlib.Omega.{arith}
 use lib.ListN.{replicate, replicate-append-replicate}
@@ -13,43 +13,24 @@ use Rattle.rules.specs.declared.Stage.the-variants.{Absent, Running, Finished, 
 use Rattle.rules.specs.declared.Machine.{Machine}
 use Rattle.rules.specs.State.{stageOf, entered, finished, crashed, accessesOf}
 use Rattle.rules.specs.Calls.{numberOf, accepted, fresh, stepOf, stepsOf, finishOf}
-use Rattle.rules.specs.Numbers.{lowest, crashLines}
+use Rattle.sets.specs.Lines.{firstThat}
+use Rattle.rules.specs.Numbers.{crashLines}
 use Rattle.rules.specs.Statements.{Meets, Valid, FinishedAlone, RefusedAlone}
-use Rattle.rules.proofs.Laws.Small.{not-both, equal-or-not}
+use Rattle.rules.proofs.Laws.Small.{equal-or-not}
 use Rattle.rules.proofs.Laws.Shape.{record-shaped}
-use Rattle.rules.proofs.Laws.Did.{what-calls-do, what-calls-did}
+use Rattle.rules.proofs.Laws.Did.{what-calls-do}
 use Rattle.rules.proofs.Laws.Numbers.{table-of-numbers}
 use Rattle.rules.proofs.Laws.Steps.{steps-on, steps-off}
 use Rattle.rules.proofs.Laws.Accesses.{accesses-of-calls}
 use Rattle.rules.proofs.Laws.Finishing.{finishing-alone}
-use Rattle.history.specs.Runs.{Call, steps, crashes, answer, after, from, runs, tally, stepOfTaken, acceptedSteps}
+use Rattle.history.specs.Runs.{Call, steps, crashes, answer, from, runs, tally, stepOfTaken, acceptedSteps}
 use Rattle.history.specs.Theorems.{AloneNeverOneNorSeven, FinishesAlone, AloneFinishes, WaitFree}
 use Rattle.history.proofs.Appends.{from-append, tally-append}
-use Rattle.history.proofs.Moves.{meets-after, every-state-shaped, Stepped, writing, finding, ending, falling, stepped, by-call}
+use Rattle.history.proofs.Moves.{every-state-shaped}
+use Rattle.history.proofs.Stays.{finished-from}
 use Rattle.history.proofs.Counts.{accesses-counted}
 use Rattle.history.proofs.Invariant.{Inv, inv-from, inv-runs}
 use Rattle.history.proofs.Answers.{Fine, answer-fine}
-
--- Whoever has finished stays so.
-was-running : (m m′ : Machine) (p : ℕ) → Stepped m m′ p → finished (stageOf m p) ≡ false
-was-running m m′ p (writing x f was now) = ap finished was
-was-running m m′ p (finding x k f was lo hi now) = ap finished was
-was-running m m′ p (ending x f was e now) = ap finished was
-was-running m m′ p (falling x f was ne two now) = ap finished was
-
-stays : (n : ℕ) (m : Machine) → Meets n m → (p : ℕ) → 1 ≤ p → finished (stageOf m p) ≡ true → (c : Call) → finished (stageOf (after m c) p) ≡ true
-stays n m M p lp t =
-    by-call m (M .held) p lp (λ c. finished (stageOf (after m c) p) ≡ true)
-    (λ c e _ _. ap (λ P. finished (P .stage)) e ∙ t)
-    (λ v a. not-both (finished (stageOf m p)) t (ap finished (what-calls-did .enter m p v a .1 .was)))
-    (λ a. not-both (finished (stageOf m p)) t (was-running m (stepOf m p .machine) p (stepped m (M .held) p a)))
-    (λ a. not-both (finished (stageOf m p)) t (ap finished (what-calls-did .crash m p a .1 .was)))
-
-pub stays-from : (n : ℕ) (m : Machine) → Meets n m → (p : ℕ) → 1 ≤ p → finished (stageOf m p) ≡ true → (cs : List Call)
-    → finished (stageOf (from m cs) p) ≡ true
-unfolding from
-stays-from n m M p lp t [] = t
-stays-from n m M p lp t (c ∷ cs) = stays-from n (after m c) (meets-after n m M c) p lp (stays n m M p lp t c) cs
 
 -- Steps one after another are calls of a list.
 pub steps-calls : (k : ℕ) (m : Machine) (p : ℕ) → accepted (stepsOf k m p) ≡ true
@@ -75,7 +56,7 @@ steps-calls (suc k) m p a = go (accepted (stepOf m p)) refl (steps-calls k (step
     go false t further = absurd (false≢true (sym t ∙ sym (ap accepted (steps-off k m p t)) ∙ a))
 
 -- Finishing alone from any state that a run leaves.
-alone-taken : (m : Machine) → Inv m → (p : ℕ) → lowest (crashLines m p) ≡ 0 → accepted (finishOf m p) ≡ true
+alone-taken : (m : Machine) → Inv m → (p : ℕ) → firstThat (crashLines m p) ≡ 0 → accepted (finishOf m p) ≡ true
 alone-taken m I p no-line = go (accepted (finishOf m p)) refl
   where
     -- a refused one would end in a step that is refused with 7
@@ -91,12 +72,12 @@ alone-taken m I p no-line = go (accepted (finishOf m p)) refl
 
 -- Its number is that of a crash, or 0.
 pub alone-never-one-nor-seven : AloneNeverOneNorSeven
-alone-never-one-nor-seven n lo hi cs p = go (equal-or-not (lowest (crashLines m p)) 0)
+alone-never-one-nor-seven n lo hi cs p = go (equal-or-not (firstThat (crashLines m p)) 0)
   where
     m : Machine
     m = runs n cs
 
-    go : (lowest (crashLines m p) ≡ 0) ⊎ (lowest (crashLines m p) ≢ 0) → Fine (finishOf m p)
+    go : (firstThat (crashLines m p) ≡ 0) ⊎ (firstThat (crashLines m p) ≢ 0) → Fine (finishOf m p)
     go (inl none) = omega (arith, eqb-true (numberOf (finishOf m p .answer)) 0 (alone-taken m (inv-runs n lo hi cs) p none))
     go (inr some) =
         subst (λ k. (k ≢ 1) × (k ≢ 7)) (table-of-numbers .crash m p ∙ sym (table-of-numbers .finish m p some))
@@ -169,7 +150,7 @@ wait-free n lo hi cs p lp hp came alive k enough = go (finished (stageOf (runs n
     after-all : (before rest : List Call) → finished (stageOf (runs n before) p) ≡ true → finished (stageOf (runs n (before ++ rest)) p) ≡ true
     after-all before rest t =
         subst (λ m. finished (stageOf m p) ≡ true) (sym (from-append (fresh n) before rest))
-        (stays-from n (runs n before) (every-state-shaped n lo hi before) p lp t rest)
+        (ap (λ P. finished (P .stage)) (finished-from n (runs n before) (every-state-shaped n lo hi before) p lp t rest) ∙ t)
 
     go : (b : Bool) → finished (stageOf (runs n cs) p) ≡ b → finished (stageOf (runs n (cs ++ replicate k (steps p))) p) ≡ true
     go true t = after-all cs (replicate k (steps p)) t

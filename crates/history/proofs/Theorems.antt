@@ -2,7 +2,7 @@
 use Rattle.history.specs.Theorems.{StepIsFirstAccess, EnterIsStart, CrashIsEnd, ViewIsReturned, LookShowsView, EveryStateShaped, NeverOneNorSeven}
 use Rattle.history.specs.Theorems.{AloneNeverOneNorSeven, AcceptedWhileAccesses, AtMostXReachX}
 use Rattle.history.specs.Theorems.{ReachedIsReaches, ThreeProperties, ThreePropertiesOfSets, ViewsAreGiven, ExactSteps, EnoughSteps}
-use Rattle.history.specs.Theorems.{AccessesCounted, WaitFree, CrashedStays, WrittenStays}
+use Rattle.history.specs.Theorems.{AccessesCounted, WaitFree, CrashedStays, FinishedStays, WrittenStays}
 use Rattle.history.specs.Theorems.{AloneFinishes, OverAppend, CountsOfRuns}
 use Rattle.history.proofs.Appends
 use Rattle.history.proofs.Moves
@@ -71,6 +71,9 @@ wait-free = Alone.wait-free
 
 pub crashed-stays : CrashedStays
 crashed-stays = Stays.crashed-stays
+
+pub finished-stays : FinishedStays
+finished-stays = Stays.finished-stays
 
 pub written-stays : WrittenStays
 written-stays = Stays.written-stays

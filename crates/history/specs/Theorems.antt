@@ -1,4 +1,5 @@
--- Demand 3, and the sentence of demand 2 on steps, as statements; proofs/Theorems proves each.
+-- What holds of lists of calls, as statements that proofs/Theorems proves: demand 3; demand 2's sentences on calls in the terms of Fig. 8.16; what a look
+-- shows; and document 01's rules 2, 6 and 7 and numbers 1 and 7 over a whole run.
 use mathlib.Core.Path.{_≡_}
 use mathlib.Core.Logic.{_⊎_, _↔_, _≢_}
 use mathlib.Core.Bool.{Bool, true, false}
@@ -143,6 +144,15 @@ abbrev pub CrashedStays : Type 0
 CrashedStays = OfEveryRun λ n cs. (p : ℕ) → 1 ≤ p → crashed (stageOf (runs n cs) p) ≡ true
     → (ds : List Call) → processOf (runs n (cs ++ ds)) p ≡ processOf (runs n cs) p
 
+-- Rule 2: "level and view once it has finished." Whatever calls come after, its record is the one that it had, and the list that it was told has the
+-- same pairs.
+pub record SameList (m m′ : Machine) (p : ℕ) : Type 0 where
+  pub process : processOf m′ p ≡ processOf m p
+  pub pairs : (j v : ℕ) → View m p j v ↔ View m′ p j v
+
+abbrev pub FinishedStays : Type 0
+FinishedStays = OfEveryRun λ n cs. (p : ℕ) → Has (runs n cs) p → (ds : List Call) → SameList (runs n cs) (runs n (cs ++ ds)) p
+
 -- Rule 6: "What it wrote stays." So does what any process wrote: no register is emptied, and none is given another value.
 abbrev pub WrittenStays : Type 0
 WrittenStays = OfEveryRun λ n cs. (x i v : ℕ) → 1 ≤ x → x ≤ n → 1 ≤ i → i ≤ n → register (runs n cs) x i ≡ holds v
@@ -166,11 +176,12 @@ pub record OverAppend : Type 0 where
   pub state : (m : Machine) (cs ds : List Call) → from m (cs ++ ds) ≡ from (from m cs) ds
   pub counts : (test : Call → Called → Bool) (m : Machine) (cs ds : List Call) → tally test m (cs ++ ds) ≡ tally test m cs + tally test (from m cs) ds
 
--- A call is accepted or refused; the accepted steps are those of the processes 1 to n.
+-- f 1 + .. + f k
 unfoldable pub total : (ℕ → ℕ) → ℕ → ℕ
 total f zero = 0
 total f (suc k) = f (suc k) + total f k
 
+-- A call is accepted or refused; the accepted steps are those of the processes 1 to n.
 pub record CountsAgree (n : ℕ) (cs : List Call) : Type 0 where
   pub calls : acceptedCalls n cs + refusedCalls n cs ≡ length cs
   pub steps : allSteps n cs ≡ total (acceptedSteps n cs) n

@@ -1,6 +1,6 @@
-// The calls that change the machine of document 01 by one order: one one-shot immediate snapshot for n processes, one register access at a time.
+// The machine of document 01, one one-shot immediate snapshot for n processes, and the calls that an order makes, one register access at a time.
 // A call that changes a machine has one way out, which costs a copy of the state less.
-use moves::Found;
+use moves::Asked;
 use moves::Move;
 use moves::Mover;
 use rules::Answer;
@@ -54,10 +54,10 @@ pub fn enter(mut m: Machine, p: u32, v: u32) -> Called
 {
     let mut answer = Answer::Done;
     match moves::find(m.n, &m.filled, &m.values, m.processes, p) {
-        Found::Refused(a) => {
+        Asked::Refused(a) => {
             answer = a;
         }
-        Found::Record(process) => {
+        Asked::Record(process) => {
             let stage = process.stage;
             match stage {
                 Stage::Absent => {

@@ -21,51 +21,51 @@ use Rattle.rules.proofs.Laws.Small.{and-first, and-second, cond-true, cond-fals
 use Rattle.rules.proofs.Laws.Shape.{shaped-record}
 use Rattle.rules.proofs.Laws.Did.{goes-on, steps}
 use Rattle.moves.specs.declared.Move.{Move}
-use Rattle.moves.specs.declared.Found.{Found}
+use Rattle.moves.specs.declared.Asked.{Asked}
 use Rattle.moves.specs.declared.Mover.{Mover}
-use Rattle.moves.specs.Found.{foundOf, moverBy, moverIn, moverOf}
+use Rattle.moves.specs.Asked.{askedOf, moverBy, moverIn, moverOf}
 use Rattle.moves.specs.Moves.{afterRead, moveIn, moveOf}
 
-pub unshaped : (m : Machine) (p : ℕ) → shaped m ≡ false → foundOf m p ≡ Found.Refused NotShaped
-unshaped m p e = cond-false (shaped m) _ (Found.Refused NotShaped) e
+pub unshaped : (m : Machine) (p : ℕ) → shaped m ≡ false → askedOf m p ≡ Asked.Refused NotShaped
+unshaped m p e = cond-false (shaped m) _ (Asked.Refused NotShaped) e
 
-pub no-process : (m : Machine) (p : ℕ) → shaped m ≡ true → (leb 1 p && leb p (m .n)) ≡ false → foundOf m p ≡ Found.Refused NoProcess
-no-process m p e f = cond-true (shaped m) _ (Found.Refused NotShaped) e ∙ cond-false (leb 1 p && leb p (m .n)) _ (Found.Refused NoProcess) f
+pub no-process : (m : Machine) (p : ℕ) → shaped m ≡ true → (leb 1 p && leb p (m .n)) ≡ false → askedOf m p ≡ Asked.Refused NoProcess
+no-process m p e f = cond-true (shaped m) _ (Asked.Refused NotShaped) e ∙ cond-false (leb 1 p && leb p (m .n)) _ (Asked.Refused NoProcess) f
 
 pub passed : (m : Machine) (p : ℕ) → shaped m ≡ true → (leb 1 p && leb p (m .n)) ≡ true → Valid m p
 passed m p e f =
     record { shape = e; low = leb-true 1 p (and-first (leb 1 p) (leb p (m .n)) f); high = leb-true p (m .n) (and-second (leb 1 p) (leb p (m .n)) f) }
 
-pub found : (m : Machine) (p : ℕ) → shaped m ≡ true → (leb 1 p && leb p (m .n)) ≡ true → foundOf m p ≡ Found.Record (processOf m p)
-found m p e f = cond-true (shaped m) _ (Found.Refused NotShaped) e ∙ cond-true (leb 1 p && leb p (m .n)) _ (Found.Refused NoProcess) f
+pub asked : (m : Machine) (p : ℕ) → shaped m ≡ true → (leb 1 p && leb p (m .n)) ≡ true → askedOf m p ≡ Asked.Record (processOf m p)
+asked m p e f = cond-true (shaped m) _ (Asked.Refused NotShaped) e ∙ cond-true (leb 1 p && leb p (m .n)) _ (Asked.Refused NoProcess) f
 
 -- What is found, taken apart again.
-abbrev pub answerIn : Found → Answer
-answerIn (Found.Record P) = Done
-answerIn (Found.Refused a) = a
+abbrev pub answerIn : Asked → Answer
+answerIn (Asked.Record P) = Done
+answerIn (Asked.Refused a) = a
 
-abbrev processIn : Found → Process
-processIn (Found.Record P) = P
-processIn (Found.Refused a) = nobody
+abbrev processIn : Asked → Process
+processIn (Asked.Record P) = P
+processIn (Asked.Refused a) = nobody
 
-abbrev pub isRecord : Found → Bool
-isRecord (Found.Record P) = true
-isRecord (Found.Refused a) = false
+abbrev pub isRecord : Asked → Bool
+isRecord (Asked.Record P) = true
+isRecord (Asked.Refused a) = false
 
-pub refused-call : (m : Machine) (p : ℕ) (a : Answer) (c : Called) → foundOf m p ≡ Found.Refused a → tested m p c ≡ refused a m
+pub refused-call : (m : Machine) (p : ℕ) (a : Answer) (c : Called) → askedOf m p ≡ Asked.Refused a → tested m p c ≡ refused a m
 refused-call m p a c = go (shaped m) (leb 1 p && leb p (m .n))
   where
-    go : (s r : Bool) → cond s (cond r (Found.Record (processOf m p)) (Found.Refused NoProcess)) (Found.Refused NotShaped) ≡ Found.Refused a
+    go : (s r : Bool) → cond s (cond r (Asked.Record (processOf m p)) (Asked.Refused NoProcess)) (Asked.Refused NotShaped) ≡ Asked.Refused a
         → cond s (cond r c (refused NoProcess m)) (refused NotShaped m) ≡ refused a m
     go true true e = absurd (true≢false (ap isRecord e))
-    go true false e = ap (λ (f : Found). refused (answerIn f) m) e
-    go false r e = ap (λ (f : Found). refused (answerIn f) m) e
+    go true false e = ap (λ (f : Asked). refused (answerIn f) m) e
+    go false r e = ap (λ (f : Asked). refused (answerIn f) m) e
 
-pub found-valid : (m : Machine) (p : ℕ) (P : Process) → foundOf m p ≡ Found.Record P → Valid m p × (processOf m p ≡ P)
-found-valid m p P = go (shaped m) (leb 1 p && leb p (m .n)) refl refl
+pub asked-valid : (m : Machine) (p : ℕ) (P : Process) → askedOf m p ≡ Asked.Record P → Valid m p × (processOf m p ≡ P)
+asked-valid m p P = go (shaped m) (leb 1 p && leb p (m .n)) refl refl
   where
     go : (s r : Bool) → shaped m ≡ s → (leb 1 p && leb p (m .n)) ≡ r
-        → cond s (cond r (Found.Record (processOf m p)) (Found.Refused NoProcess)) (Found.Refused NotShaped) ≡ Found.Record P → Valid m p × (processOf m p ≡ P)
+        → cond s (cond r (Asked.Record (processOf m p)) (Asked.Refused NoProcess)) (Asked.Refused NotShaped) ≡ Asked.Record P → Valid m p × (processOf m p ≡ P)
     go true true s r e = (passed m p s r, ap processIn e)
     go true false s r e = absurd (false≢true (ap isRecord e))
     go false r s q e = absurd (false≢true (ap isRecord e))
@@ -95,7 +95,7 @@ pub record Refuses (m : Machine) (at : Stage → Called) : Type 0 where
 
 pub refused-mover : (m : Machine) (p : ℕ) (a : Answer) (at : Stage → Called) → Refuses m at → moverOf m p ≡ Mover.Refused a
     → tested m p (at (stageOf m p)) ≡ refused a m
-refused-mover m p a at r = go (foundOf m p) refl
+refused-mover m p a at r = go (askedOf m p) refl
   where
     by : (s : Stage) (v : ℕ) → moverBy s v ≡ Mover.Refused a → at s ≡ refused a m
     by Absent v e = r .absent ∙ ap (λ (q : Mover). refused (answerOf q) m) e
@@ -103,11 +103,11 @@ refused-mover m p a at r = go (foundOf m p) refl
     by (Finished x w) v e = r .finished x w ∙ ap (λ (q : Mover). refused (answerOf q) m) e
     by (Crashed x k f) v e = r .crashed x k f ∙ ap (λ (q : Mover). refused (answerOf q) m) e
 
-    go : (f : Found) → foundOf m p ≡ f → moverIn f ≡ Mover.Refused a → tested m p (at (stageOf m p)) ≡ refused a m
-    go (Found.Record P) e q =
-        let v = found-valid m p P e in
+    go : (f : Asked) → askedOf m p ≡ f → moverIn f ≡ Mover.Refused a → tested m p (at (stageOf m p)) ≡ refused a m
+    go (Asked.Record P) e q =
+        let v = asked-valid m p P e in
         goes-on m p (v .0) (at (stageOf m p)) ∙ ap (λ (P : Process). at (P .stage)) (v .1) ∙ by (P .stage) (P .value) q
-    go (Found.Refused b) e q = refused-call m p b (at (stageOf m p)) e ∙ ap (λ (q : Mover). refused (answerOf q) m) q
+    go (Asked.Refused b) e q = refused-call m p b (at (stageOf m p)) e ∙ ap (λ (q : Mover). refused (answerOf q) m) q
 
 -- how a process of a well shaped machine stands
 pub standing : (m : Machine) (p : ℕ) → Valid m p → (s : Stage) → stageOf m p ≡ s → ShapedStage (m .n) (rowOf m) s
@@ -125,7 +125,7 @@ pub record Runs (m : Machine) (p x k f v : ℕ) : Type 0 where
   pub value : valueOf m p ≡ v
 
 pub runs : (m : Machine) (p x k f v : ℕ) → moverOf m p ≡ Mover.Running x k f v → Runs m p x k f v
-runs m p x k f v = go (foundOf m p) refl
+runs m p x k f v = go (askedOf m p) refl
   where
     by : (s : Stage) (w : ℕ) → moverBy s w ≡ Mover.Running x k f v → (s ≡ Running x k f) × (w ≡ v)
     by Absent w e = absurd (false≢true (ap moves e))
@@ -133,12 +133,12 @@ runs m p x k f v = go (foundOf m p) refl
     by (Finished y u) w e = absurd (false≢true (ap moves e))
     by (Crashed y l g) w e = absurd (false≢true (ap moves e))
 
-    go : (q : Found) → foundOf m p ≡ q → moverIn q ≡ Mover.Running x k f v → Runs m p x k f v
-    go (Found.Record P) e q =
-        let u = found-valid m p P e in
+    go : (q : Asked) → askedOf m p ≡ q → moverIn q ≡ Mover.Running x k f v → Runs m p x k f v
+    go (Asked.Record P) e q =
+        let u = asked-valid m p P e in
         let b = by (P .stage) (P .value) q in
         record { valid = u .0; stage = ap (λ (P : Process). P .stage) (u .1) ∙ b .0; value = ap (λ (P : Process). P .value) (u .1) ∙ b .1 }
-    go (Found.Refused a) e q = absurd (false≢true (ap moves q))
+    go (Asked.Refused a) e q = absurd (false≢true (ap moves q))
 
 -- it has a level, and a row there
 pub running-low : (m : Machine) (p x k f v : ℕ) → Runs m p x k f v → (1 ≤ x) × (x ≤ 32)

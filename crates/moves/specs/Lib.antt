@@ -1,3 +1,3 @@
 -- What the calls compute on their way.
-pub mod Found
+pub mod Asked
 pub mod Moves

@@ -10,7 +10,7 @@ use Rattle.rules.specs.State.{rowOf}
 use Rattle.rules.specs.Calls.{reading}
 use Rattle.moves.specs.declared.Move.{Move}
 use Rattle.moves.specs.declared.Mover.{Mover}
-use Rattle.moves.specs.Found.{moverOf}
+use Rattle.moves.specs.Asked.{moverOf}
 
 -- rules 4 and 5, the read of register k at level x of a row, over the set found
 abbrev pub afterRead : ℕ → ℕ → ℕ → ℕ → ℕ → ℕ → Move

@@ -7,7 +7,7 @@ ghost use mathlib.Core.Bool.{_&&_};
 ghost use Prim.Native.Nat.{_≤_};
 ghost use lib.Dec.{leb};
 ghost use Rattle.rules.specs.Calls.{reading};
-ghost use Rattle.moves.specs.Found.{foundOf, moverOf, moverAt};
+ghost use Rattle.moves.specs.Asked.{askedOf, moverOf, moverAt};
 ghost use Rattle.moves.specs.Moves.{afterRead, moveOf};
 
 fn in_range(p: u32, n: u32) -> bool
@@ -20,7 +20,7 @@ fn in_range(p: u32, n: u32) -> bool
 }
 
 // What 1 and 2 leave, which come before all else: the record of process p, or a refusal.
-pub enum Found {
+pub enum Asked {
     Record(Process),
     Refused(Answer),
 }
@@ -32,17 +32,17 @@ pub fn find<'a>(
     values: &'a [u32; 1024],
     processes: [Process; 32],
     p: u32,
-) -> Found
-    ensures { λ r. ⌜ r ≡ foundOf (record { n = n; filled = now (filled .entry); values = now (values .entry); processes = processes }) p ⌝ }
+) -> Asked
+    ensures { λ r. ⌜ r ≡ askedOf (record { n = n; filled = now (filled .entry); values = now (values .entry); processes = processes }) p ⌝ }
 {
     if !shape::shaped(n, filled, values, processes) {
-        return Found::Refused(Answer::NotShaped);
+        return Asked::Refused(Answer::NotShaped);
     }
     if !in_range(p, n) {
-        return Found::Refused(Answer::NoProcess);
+        return Asked::Refused(Answer::NoProcess);
     }
     let at = (p - 1) as usize;
-    Found::Record(processes[at])
+    Asked::Record(processes[at])
 }
 
 // What 4, 5 and 6 leave after them: process p as it runs, or a refusal.
@@ -67,8 +67,8 @@ pub fn find_running<'a>(
     ensures { λ r. ⌜ r ≡ moverOf (record { n = n; filled = now (filled .entry); values = now (values .entry); processes = processes }) p ⌝ }
 {
     match find(n, filled, values, processes, p) {
-        Found::Refused(answer) => Mover::Refused(answer),
-        Found::Record(process) => as_it_runs(process),
+        Asked::Refused(answer) => Mover::Refused(answer),
+        Asked::Record(process) => as_it_runs(process),
     }
 }
 

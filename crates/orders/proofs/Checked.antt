@@ -12,7 +12,7 @@ use Rattle.sets.specs.Immediate.{Immediate, Inside}
 use Rattle.sets.proofs.Laws.{has-known}
 use Rattle.rules.specs.declared.Machine.{Machine}
 use Rattle.rules.specs.State.{stageOf, valueOf, foundOf}
-use Rattle.rules.specs.Shape.{Shaped}
+use Rattle.rules.specs.Shape.{Words, Shaped}
 use Rattle.rules.specs.Calls.{accepted, fresh, enterOf, viewOf}
 use Rattle.rules.proofs.Laws.Shape.{record-shaped}
 use Rattle.history.specs.Runs.{Call, enters, steps, crashes, after, runs, givenFrom, given}
@@ -39,7 +39,7 @@ use Rattle.findings.proofs.Verdicts.{read-then-checked}
 use Rattle.orders.specs.Replays.{Orders, ended, onward, ordersFrom, replayOf, callsBy, callsOf, processesOf}
 use Rattle.orders.specs.OrderFile.{WordCalls}
 use Rattle.orders.specs.Writes.{viewsOf, bytesOf}
-use Rattle.orders.specs.Promises.{Words, Accepted, EveryRunAccepted, EveryFileAccepted, DemandThree}
+use Rattle.orders.specs.Promises.{Accepted, EveryRunAccepted, EveryFileAccepted, DemandThree}
 use Rattle.orders.proofs.Views.{seen}
 use Rattle.orders.proofs.RoundTrip.{view-found, owner-known, owner-finished, owner-below, named-below, value-named, written-reads-back}
 use Rattle.orders.proofs.Promises.{few-processes, demand-three, every-file-counted, every-file-demand-three}

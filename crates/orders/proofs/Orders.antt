@@ -14,7 +14,7 @@ use Rattle.files.specs.declared.Mark.{Mark}
 use Rattle.files.specs.declared.Order.{Order}
 use Rattle.files.specs.Numbers.{numberOf}
 use Rattle.files.specs.Records.{byteAt, wordAt, markOf, markAt, fits, orderBy, orderAt}
-use Rattle.files.specs.Table.{when, firstThat}
+use Rattle.sets.specs.Lines.{when, firstThat}
 use Rattle.orders.specs.Table.{marked, orderLines}
 
 -- a failed order is the other order

@@ -21,7 +21,7 @@ use Rattle.files.specs.Records.{wordBytes}
 use Rattle.files.specs.ViewFile.{joined}
 use Rattle.files.proofs.Bytes.{joined-at}
 use Rattle.findings.proofs.First.{joined-next}
-use Rattle.orders.specs.Places.{put, memberBytes, recordBytes, stageBytes, partOf, recordLength, Lands}
+use Rattle.orders.specs.Places.{put, memberBytes, recordBytes, stageBytes, partOf, recordLength, HasRow}
 
 pub put-append : (b : List ℕ) (at : ℕ) (x y : List ℕ) → put b at (x ++ y) ≡ put (put b at x) (at + length x) y
 unfolding put
@@ -185,15 +185,15 @@ unfolding put
 no-record values b at p s h = let e = unfinished values p s h in (omega (arith, e .0), ap (put b at) (e .1))
 
 -- a finished process of a well shaped machine has a level from 1 to 32
-lands-by : (n : ℕ) (row : ℕ → ℕ) (s : Stage) → n ≤ 32 → ShapedStage n row s → Lands s
+lands-by : (n : ℕ) (row : ℕ → ℕ) (s : Stage) → n ≤ 32 → ShapedStage n row s → HasRow s
 lands-by n row Absent h e = e
 lands-by n row (Running x k f) h e = tt
 lands-by n row (Finished x w) h e = (e .low, omega (arith, e .high))
 lands-by n row (Crashed x k f) h e = tt
 
-pub lands : (m : Machine) (i : ℕ) → shaped m ≡ true → i < 32 → Lands (getD (m .processes) i nobody .stage)
+pub lands : (m : Machine) (i : ℕ) → shaped m ≡ true → i < 32 → HasRow (getD (m .processes) i nobody .stage)
 lands m i e h =
     let s : Shaped m = shaped-record m e in
     let k : i + 1 - 1 ≡ i = omega arith in
-    subst (λ (j : ℕ). Lands (getD (m .processes) j nobody .stage)) k
+    subst (λ (j : ℕ). HasRow (getD (m .processes) j nobody .stage)) k
     (lands-by (m .n) (rowOf m) (stageOf m (i + 1)) (s .most) (s .process (i + 1) (omega arith) (omega arith) .stage))

@@ -11,7 +11,7 @@ use Rattle.rules.specs.declared.Stage.{Stage}
 use Rattle.rules.specs.declared.Stage.the-variants.{Absent, Running, Finished, Crashed}
 use Rattle.rules.specs.declared.Machine.{Machine}
 use Rattle.rules.specs.State.{stageOf, valueOf, rowOf, cellOf, entered, finished, levelOf, foundOf}
-use Rattle.rules.specs.Shape.{Held, Shaped, ShapedStage}
+use Rattle.rules.specs.Shape.{Held, Words, Shaped, ShapedStage}
 use Rattle.rules.specs.Calls.{viewOf}
 use Rattle.rules.proofs.Laws.Small.{at-most-or-above}
 use Rattle.rules.proofs.Laws.Shape.{shaped-record}
@@ -19,7 +19,7 @@ use Rattle.files.specs.Views.{owns, seenBy, valueBy, InRange}
 use Rattle.files.specs.ViewFile.{joined}
 use Rattle.files.proofs.RoundTrip as files
 use Rattle.orders.specs.Writes.{valueIn, viewsOf, bytesOf}
-use Rattle.orders.specs.Promises.{Words, WrittenReadsBack, WritesBytes}
+use Rattle.orders.specs.Promises.{WrittenReadsBack, WritesBytes}
 use Rattle.orders.proofs.Joined.{joined-length}
 use Rattle.orders.proofs.Views.{owned, seen, valued}
 

@@ -17,7 +17,7 @@ use Rattle.files.specs.declared.Header.{Header}
 use Rattle.files.specs.declared.Order.{Order}
 use Rattle.files.specs.Numbers.{numberOf}
 use Rattle.files.specs.Records.{headerOf, orderAt}
-use Rattle.files.specs.Table.{firstThat}
+use Rattle.sets.specs.Lines.{firstThat}
 use Rattle.files.proofs.Reading.{opened}
 use Rattle.files.proofs.Table.{headerNumber, header-number, header-refused}
 use Rattle.orders.specs.Replays.{Orders, ended, then, onward, ordersFrom, replayBy, replayOf, callsBy, callsOf}

@@ -13,13 +13,11 @@ use Rattle.rules.specs.Calls.{fresh}
 use Rattle.history.specs.Runs.{runs}
 use Rattle.history.specs.Examples.{printed}
 use Rattle.files.specs.Numbers.{numberOf}
+use Rattle.files.specs.Examples.{MN}
 use Rattle.orders.specs.Replays.{replayOf}
 use Rattle.orders.specs.Writes.{bytesOf}
 
 -- the records; a value below 256
-abbrev pub MN : ℕ → List ℕ
-MN n = 77 ∷ 78 ∷ n ∷ []
-
 abbrev pub EN : ℕ → ℕ → List ℕ
 EN p v = 69 ∷ 78 ∷ p ∷ v ∷ 0 ∷ 0 ∷ 0 ∷ []
 

@@ -43,9 +43,9 @@ recordLength (Running x k f) = 0
 recordLength (Finished x w) = 7 + 4 * size w
 recordLength (Crashed x k f) = 0
 
--- a finished process has a level that there is
-abbrev pub Lands : Stage → Type 0
-Lands Absent = Unit {0}
-Lands (Running x k f) = Unit {0}
-Lands (Finished x w) = (1 ≤ x) × (x ≤ 32)
-Lands (Crashed x k f) = Unit {0}
+-- the level of a finished process is that of a row
+abbrev pub HasRow : Stage → Type 0
+HasRow Absent = Unit {0}
+HasRow (Running x k f) = Unit {0}
+HasRow (Finished x w) = (1 ≤ x) × (x ≤ 32)
+HasRow (Crashed x k f) = Unit {0}

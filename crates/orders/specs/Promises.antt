@@ -1,6 +1,6 @@
--- What is promised of every order file, every budget and every view file that is written. `proofs/` proves each, under the same name with a small
--- first letter.
-use Prim.Native.Nat.{ℕ, _+_, _-_, _*_, _^_, _≤_, _<_}
+-- What is promised of every order file, every budget and every view file that is written. `proofs/` proves each, under the same name in small
+-- letters, with hyphens.
+use Prim.Native.Nat.{ℕ, _+_, _-_, _*_, _≤_, _<_}
 use mathlib.Core.Bool.{true}
 use mathlib.Core.Path.{_≡_}
 use mathlib.Core.Logic.{_↔_}
@@ -10,8 +10,8 @@ use Rattle.sets.specs.Sets.{count, size}
 use Rattle.sets.specs.Immediate.{Immediate}
 use Rattle.rules.specs.declared.Machine.{Machine}
 use Rattle.rules.specs.declared.Standing.{Standing}
-use Rattle.rules.specs.State.{stageOf, valueOf, finished, foundOf}
-use Rattle.rules.specs.Shape.{Held, shaped}
+use Rattle.rules.specs.State.{stageOf, finished, foundOf}
+use Rattle.rules.specs.Shape.{Held, Words, shaped}
 use Rattle.rules.specs.Calls.{lookOf}
 use Rattle.rules.specs.Statements.{Meets}
 use Rattle.history.specs.Runs.{Call, runs, acceptedSteps, allSteps, refusedCalls, reached, given}
@@ -102,9 +102,6 @@ abbrev pub EveryViewLooked : Type 0
 EveryViewLooked = (m : Machine) → shaped m ≡ true → (i : ℕ) → 1 ≤ i → i ≤ m .n → AsLooked m i
 
 -- "A written view file reads back as the same views": of every well shaped machine that the declared types hold.
-abbrev pub Words : Machine → Type 0
-Words m = (i : ℕ) → 1 ≤ i → i ≤ 32 → valueOf m i < 2 ^ 32
-
 abbrev pub WrittenReadsBack : Type 0
 WrittenReadsBack = (m : Machine) → Held m → Words m → shaped m ≡ true → readOf (bytesOf m) ≡ readWhole (bytesOf m) (viewsOf m)
 

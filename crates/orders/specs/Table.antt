@@ -12,7 +12,8 @@ use Rattle.files.specs.declared.Header.{Header}
 use Rattle.files.specs.declared.Order.{Order}
 use Rattle.files.specs.Numbers.{numberOf}
 use Rattle.files.specs.Records.{byteAt, isMark, headerOf, orderAt}
-use Rattle.files.specs.Table.{Line, when, firstThat, headerLines}
+use Rattle.sets.specs.Lines.{Line, when, firstThat}
+use Rattle.files.specs.Table.{headerLines}
 use Rattle.orders.specs.Replays.{replayOf, callsOf}
 
 -- the mark at a place is a, b

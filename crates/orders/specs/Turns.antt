@@ -47,7 +47,7 @@ resumed k m o =
     }
 
 -- one order more can be counted; no count passes the orders taken
-pub record Room (k : Counts) : Type 0 where
+pub record CountsFit (k : Counts) : Type 0 where
   pub more : k .taken < 4294967295
   pub accesses : k .accesses ≤ k .taken
   pub refused : k .refused ≤ k .taken

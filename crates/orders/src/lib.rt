@@ -16,9 +16,9 @@ ghost use Rattle.rules.specs.Calls.{numberOf, fresh};
 ghost use Rattle.files.specs.Records.{wordBytes};
 ghost use Rattle.files.specs.ViewFile.{joined};
 ghost use Rattle.orders.specs.Replays.{replayed, ordersFrom, replayOf};
-ghost use Rattle.orders.specs.Turns.{none, counted, ends, Room};
+ghost use Rattle.orders.specs.Turns.{none, counted, ends, CountsFit};
 ghost use Rattle.orders.specs.Writes.{writeOf, bufferOf};
-ghost use Rattle.orders.specs.Places.{Lands, recordLength, put, memberBytes, recordBytes, stageBytes, machineBytes};
+ghost use Rattle.orders.specs.Places.{HasRow, recordLength, put, memberBytes, recordBytes, stageBytes, machineBytes};
 
 // What a replay answers.
 pub struct Replayed {
@@ -61,7 +61,7 @@ fn accepted(a: Answer) -> bool
 
 // One order more, which the machine has answered; `step` is 1 for a step and 0 otherwise.
 fn counted(counts: Counts, a: Answer, step: u32) -> Counts
-    requires { ⌜ Room counts × (step ≤ 1) ⌝ }
+    requires { ⌜ CountsFit counts × (step ≤ 1) ⌝ }
     ensures { λ r. ⌜ r ≡ counted counts a step ⌝ }
 {
     if accepted(a) {
@@ -249,7 +249,7 @@ fn put_view(
 
 // The record of process p, which has none unless it has finished; answers the place after it.
 fn put_process(buffer: &mut [u8], at: usize, values: &[u32; 1024], p: u32, stage: Stage) -> usize
-    requires { ⌜ (at + recordLength stage ≤ length (now buffer)) × Lands stage × (p ≤ 32) ⌝ }
+    requires { ⌜ (at + recordLength stage ≤ length (now buffer)) × HasRow stage × (p ≤ 32) ⌝ }
     ensures { λ r. ⌜ r ≡ at + recordLength stage ⌝ }
     ensures { λ _. ⌜ now (buffer .exit) ≡ put (now (buffer .entry)) at (stageBytes (now (values .entry)) p stage) ⌝ }
 {

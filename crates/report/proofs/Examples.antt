@@ -28,12 +28,14 @@ use Rattle.orders.specs.declared.Counts.{Counts}
 use Rattle.orders.specs.declared.Replayed.{Replayed}
 use Rattle.orders.specs.Replays.{onward, replayBy, replayOf, ordersFrom}
 use Rattle.orders.specs.Turns.{none, counted, ends, resumed}
-use Rattle.orders.specs.Examples.{MN, printedFile}
+use Rattle.files.specs.Examples.{MN}
+use Rattle.findings.specs.Examples.{p10}
+use Rattle.orders.specs.Examples.{printedFile}
 use Rattle.orders.proofs.Promises.{refused-header}
 use Rattle.orders.proofs.Turns.{resumed-took, resumed-ended, resumed-none}
 use Rattle.report.specs.Lines.{digitsIn, decimal, fields, line, run, pair, pairsFrom, sightLine, processLine, runLine, partaking, lastLine}
 use Rattle.report.specs.Lines.{replayLines, replayText, verdictLine, verdictText}
-use Rattle.report.specs.Examples.{Texts, printed, nobodyThere, refusedHeader, RefusedHeaderPrints, unlike}
+use Rattle.report.specs.Examples.{Texts, printed, nobodyThere, refusedHeader, RefusedHeaderPrints}
 use Rattle.report.proofs.Digits.{decimal-below, decimal-above}
 use Rattle.report.proofs.Fits.{replay-short, replay-long, verdict-long}
 
@@ -114,7 +116,7 @@ refused-33 : replayText (MN 33) ≡ refusedHeader
 unfolding headerOf markAt markOf decimal digitsIn
 refused-33 = refused-header-prints (MN 33) OutOfRange (lit≤ tt) refl
 
-unlike-views : verdictText unlike ≡ 118 ∷ 101 ∷ 114 ∷ 100 ∷ 105 ∷ 99 ∷ 116 ∷ 32 ∷ 50 ∷ 50 ∷ 32 ∷ 51 ∷ 55 ∷ 32 ∷ 49 ∷ 32 ∷ 50 ∷ 10 ∷ []
+unlike-views : verdictText p10 ≡ 118 ∷ 101 ∷ 114 ∷ 100 ∷ 105 ∷ 99 ∷ 116 ∷ 32 ∷ 50 ∷ 50 ∷ 32 ∷ 51 ∷ 55 ∷ 32 ∷ 49 ∷ 32 ∷ 50 ∷ 10 ∷ []
 unfolding verdictText verdictLine decimal digitsIn verdictOf checkOf findings ofOne ofPair breaks agree inside joined readOf readFrom headerOf viewAt markAt markOf
     testedAt valuesRead has plus first every count within size
 unlike-views = refl

@@ -11,7 +11,7 @@ use Rattle.rules.specs.declared.Machine.{Machine}
 use Rattle.rules.specs.declared.Sight.{Sight}
 use Rattle.rules.specs.declared.Answer.the-variants.{NoProcess, NotShaped}
 use Rattle.rules.specs.State.{nobody, stageOf}
-use Rattle.rules.specs.Shape.{Shaped, shaped}
+use Rattle.rules.specs.Shape.{Shaped}
 use Rattle.rules.specs.Calls.{looked, unseen, lookOf}
 use Rattle.rules.proofs.Laws.Shape.{record-shaped}
 use Rattle.files.specs.ViewFile.{joined}

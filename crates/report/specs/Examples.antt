@@ -6,8 +6,10 @@ use lib.ListN.{length}
 use Rattle.files.specs.declared.FileAnswer.{FileAnswer}
 use Rattle.files.specs.declared.Header.{Header}
 use Rattle.files.specs.Numbers.{numberOf}
-use Rattle.files.specs.Records.{headerOf, wordBytes}
-use Rattle.orders.specs.Examples.{MN, printedFile}
+use Rattle.files.specs.Records.{headerOf}
+use Rattle.files.specs.Examples.{MN}
+use Rattle.findings.specs.Examples.{p10}
+use Rattle.orders.specs.Examples.{printedFile}
 use Rattle.report.specs.Lines.{decimal, fields, line, run, replayText, verdictText}
 
 -- "run 0 47 12 9 1", "p 1 finished 1 6 1:7", "p 2 finished 2 3 1:7,2:9", "participants 2"
@@ -33,16 +35,11 @@ abbrev pub RefusedHeaderPrints : Type 0
 RefusedHeaderPrints = (s : List ℕ) (a : FileAnswer) → length s ≤ 65535 → headerOf s ≡ Header.Fault a
     → replayText s ≡ line (run ∷ fields (numberOf a ∷ 0 ∷ 0 ∷ 0 ∷ 0 ∷ []) ∷ []) ++ nobodyThere
 
--- P10's file; its line is "verdict 22 37 1 2"
-abbrev pub unlike : List ℕ
-unlike =
-    MN 3 ++ (86 ∷ 87 ∷ 1 ∷ wordBytes 3) ++ wordBytes 10 ++ wordBytes 20
-    ++ (86 ∷ 87 ∷ 2 ∷ wordBytes 7) ++ wordBytes 10 ++ wordBytes 20 ++ wordBytes 30
-
 pub record Texts : Type 0 where
   pub printed-run : replayText printedFile ≡ printed
   pub refused-header : replayText (MN 33) ≡ refusedHeader
-  pub unlike-views : verdictText unlike ≡ 118 ∷ 101 ∷ 114 ∷ 100 ∷ 105 ∷ 99 ∷ 116 ∷ 32 ∷ 50 ∷ 50 ∷ 32 ∷ 51 ∷ 55 ∷ 32 ∷ 49 ∷ 32 ∷ 50 ∷ 10 ∷ []
+  -- "verdict 22 37 1 2"
+  pub unlike-views : verdictText p10 ≡ 118 ∷ 101 ∷ 114 ∷ 100 ∷ 105 ∷ 99 ∷ 116 ∷ 32 ∷ 50 ∷ 50 ∷ 32 ∷ 51 ∷ 55 ∷ 32 ∷ 49 ∷ 32 ∷ 50 ∷ 10 ∷ []
   -- "verdict 9 0 0 0"
   pub nothing : verdictText [] ≡ 118 ∷ 101 ∷ 114 ∷ 100 ∷ 105 ∷ 99 ∷ 116 ∷ 32 ∷ 57 ∷ 32 ∷ 48 ∷ 32 ∷ 48 ∷ 32 ∷ 48 ∷ 10 ∷ []
   -- one byte more than 65,535, whatever the bytes are

@@ -1,2 +1,3 @@
--- The laws of the definitions.
+-- The laws of the definitions, and what the declared types say.
 pub mod Laws
+pub mod Typed

@@ -14,7 +14,8 @@ use Rattle.rules.specs.declared.Landing.{Landing}
 use Rattle.rules.specs.declared.Landing.the-variants.{Lands, Stuck}
 use Rattle.rules.specs.State.{stageOf, valueOf, rowOf, levelOf, madeOf, foundOf, withProcess, withRegister}
 use Rattle.rules.specs.Calls.{done, refused, tested}
-use Rattle.rules.specs.Numbers.{Line, when, crashLines}
+use Rattle.sets.specs.Lines.{Line, when}
+use Rattle.rules.specs.Numbers.{crashLines}
 
 -- What process p finds in a row by its last read there, nobody else moving: with no access made it writes and reads the whole row; after k accesses
 -- it has found f, and reads the registers from k on.

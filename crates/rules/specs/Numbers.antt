@@ -1,28 +1,17 @@
 -- Document 01's table of the numbers 1 to 7, apart from the calls' definitions: for each call, when each number applies. "The lowest number
 -- that applies is given for machine calls."
 use Prim.Native.Nat.{ℕ}
-use mathlib.Core.Bool.{Bool, true, false, not, _&&_}
+use mathlib.Core.Bool.{Bool, false, not, _&&_}
 use mathlib.Core.List.{List, [], _∷_, _++_}
 use lib.Dec.{leb, eqb}
 use Rattle.sets.specs.Sets.{size}
+use Rattle.sets.specs.Lines.{Line, when}
 use Rattle.rules.specs.declared.Stage.{Stage}
 use Rattle.rules.specs.declared.Stage.the-variants.{Absent, Running, Finished, Crashed}
 use Rattle.rules.specs.declared.Machine.{Machine}
 use Rattle.rules.specs.State.{stageOf, rowOf, entered, finished, crashed}
 use Rattle.rules.specs.Shape.{shaped}
 use Rattle.rules.specs.Calls.{reading}
-
-pub record Line : Type 0 where
-  pub number : ℕ
-  pub applies : Bool
-
-abbrev pub when : ℕ → Bool → Line
-when k b = record { number = k; applies = b }
-
--- the first line that applies, or 0: done
-unfoldable pub lowest : List Line → ℕ
-lowest [] = 0
-lowest (l ∷ ls) = elim (l .applies) [ true ↦ l .number | false ↦ lowest ls ]
 
 -- "step at level 1 whose last read gives a count other than 1"
 abbrev pub lastOfMany : Machine → Stage → Bool

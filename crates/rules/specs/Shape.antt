@@ -21,6 +21,10 @@ pub record Held (m : Machine) : Type 0 where
   pub row : (x : ℕ) → rowOf m x < 2 ^ 32
   pub found : (i : ℕ) → foundOf (stageOf m i) < 2 ^ 32
 
+-- And that a value is a 32-bit number. It is apart, because a list of calls may hold any number.
+abbrev pub Words : Machine → Type 0
+Words m = (i : ℕ) → 1 ≤ i → i ≤ 32 → valueOf m i < 2 ^ 32
+
 -- a running or crashed process at level x, with `made` accesses there and the registers `found` filled there
 pub record Going (n : ℕ) (row : ℕ → ℕ) (x made found : ℕ) : Type 0 where
   -- "every entered process has level 1 to n"

@@ -18,7 +18,8 @@ use Rattle.rules.specs.State.{processOf, stageOf, valueOf, rowOf, cellOf
 use Rattle.rules.specs.State.{withProcess, withStage}
 use Rattle.rules.specs.Shape.{Held, Shaped, shaped}
 use Rattle.rules.specs.Alone.{finishLines, aloneOf}
-use Rattle.rules.specs.Numbers.{Line, when, lowest, always, enterLines, crashLines, stepLines}
+use Rattle.sets.specs.Lines.{Line, when, firstThat}
+use Rattle.rules.specs.Numbers.{always, enterLines, crashLines, stepLines}
 use Rattle.rules.specs.Calls.{numberOf, accepted, done, refused, fresh, newOf, enterOf, crashOf, reading, write, stepOf, stepsOf}
 use Rattle.rules.specs.Calls.{finishOf, lookOf}
 
@@ -132,9 +133,9 @@ pub record Given (k : ℕ) (ls : List Line) : Type 0 where
   pub applies : line .applies ≡ true
   pub earlier : none before ≡ true
 
-pub record LowestIsGiven : Type 0 where
-  pub some : (k : ℕ) → k ≢ 0 → (ls : List Line) → (lowest ls ≡ k) ↔ Given k ls
-  pub nothing : (ls : List Line) → numbered ls ≡ true → (lowest ls ≡ 0) ↔ (none ls ≡ true)
+pub record FirstIsGiven : Type 0 where
+  pub some : (k : ℕ) → k ≢ 0 → (ls : List Line) → (firstThat ls ≡ k) ↔ Given k ls
+  pub nothing : (ls : List Line) → numbered ls ≡ true → (firstThat ls ≡ 0) ↔ (none ls ≡ true)
 
 -- "The lowest number that applies is given": the numbers of every call's lines ascend, and so the number of the first line that applies is the
 -- lowest of all that apply. k is below the numbers of all the lines:
@@ -152,18 +153,18 @@ pub record LinesAscend : Type 0 where
   pub crash : (m : Machine) (p : ℕ) → ascending (crashLines m p) ≡ true
   pub finish : (m : Machine) (p : ℕ) → ascending (finishLines m p) ≡ true
   pub look : (m : Machine) (p : ℕ) → ascending (always m p) ≡ true
-  pub lowest-applies : (ls : List Line) → ascending ls ≡ true → (l : Line) → List·Memᴰ l ls → l .applies ≡ true → lowest ls ≤ l .number
+  pub lowest-applies : (ls : List Line) → ascending ls ≡ true → (l : Line) → List·Memᴰ l ls → l .applies ≡ true → firstThat ls ≤ l .number
 
 -- "The lowest number that applies is given for machine calls (1 to 7)." Finishing alone goes on after 6 with the numbers of its steps.
 pub record TableOfNumbers : Type 0 where
-  pub enter : (m : Machine) (p v : ℕ) → numberOf (enterOf m p v .answer) ≡ lowest (enterLines m p)
-  pub step : (m : Machine) (p : ℕ) → numberOf (stepOf m p .answer) ≡ lowest (stepLines m p)
-  pub crash : (m : Machine) (p : ℕ) → numberOf (crashOf m p .answer) ≡ lowest (crashLines m p)
-  pub finish : (m : Machine) (p : ℕ) → lowest (crashLines m p) ≢ 0 → numberOf (finishOf m p .answer) ≡ lowest (crashLines m p)
+  pub enter : (m : Machine) (p v : ℕ) → numberOf (enterOf m p v .answer) ≡ firstThat (enterLines m p)
+  pub step : (m : Machine) (p : ℕ) → numberOf (stepOf m p .answer) ≡ firstThat (stepLines m p)
+  pub crash : (m : Machine) (p : ℕ) → numberOf (crashOf m p .answer) ≡ firstThat (crashLines m p)
+  pub finish : (m : Machine) (p : ℕ) → firstThat (crashLines m p) ≢ 0 → numberOf (finishOf m p .answer) ≡ firstThat (crashLines m p)
   -- "A look at a process refuses 1, 2"
-  pub look : (m : Machine) (p : ℕ) → numberOf (lookOf m p .answer) ≡ lowest (always m p)
+  pub look : (m : Machine) (p : ℕ) → numberOf (lookOf m p .answer) ≡ firstThat (always m p)
   -- "A new machine is refused with 8 only"
-  pub new : (n : ℕ) → numberOf (newOf n .answer) ≡ lowest (when 8 (not (leb 1 n && leb n 32)) ∷ [])
+  pub new : (n : ℕ) → numberOf (newOf n .answer) ≡ firstThat (when 8 (not (leb 1 n && leb n 32)) ∷ [])
 
 -- Demand 2: "An accepted enter or crash does to its task what rules 2, 3 and 6 of document 01 say, the batch number kept as it was given, and
 -- changes nothing else." `m′` is what a call of process p leaves of m.
@@ -234,7 +235,7 @@ pub record RefusedAlone (m : Machine) (p : ℕ) : Type 0 where
 
 -- for every state that the types allow; the lines 1, 2, 4, 5, 6 come first
 pub record FinishingAlone : Type 0 where
-  pub number : (m : Machine) → Held m → (p : ℕ) → numberOf (finishOf m p .answer) ≡ lowest (finishLines m p)
+  pub number : (m : Machine) → Held m → (p : ℕ) → numberOf (finishOf m p .answer) ≡ firstThat (finishLines m p)
   pub accepts : (m : Machine) → Held m → (p : ℕ) → accepted (finishOf m p) ≡ true → FinishedAlone m p
-  pub refuses : (m : Machine) → Held m → (p : ℕ) → lowest (crashLines m p) ≡ 0 → accepted (finishOf m p) ≡ false → RefusedAlone m p
+  pub refuses : (m : Machine) → Held m → (p : ℕ) → firstThat (crashLines m p) ≡ 0 → accepted (finishOf m p) ≡ false → RefusedAlone m p
   pub closed : (m : Machine) → Held m → (p : ℕ) → finishOf m p ≡ aloneOf m p

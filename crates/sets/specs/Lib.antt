@@ -1,3 +1,4 @@
--- What a set of processes is, and what views of processes must obey.
+-- What a set of processes is, what views of processes must obey, and how a table of numbers is read.
 pub mod Sets
 pub mod Immediate
+pub mod Lines

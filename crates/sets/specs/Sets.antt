@@ -25,11 +25,12 @@ unfoldable pub every : ℕ → (ℕ → Bool) → Bool
 every zero f = true
 every (suc k) f = f (suc k) && every k f
 
--- how many numbers from 1 to k pass a test
+-- 1 for a test that is passed
 abbrev pub tick : Bool → ℕ
 tick true = 1
 tick false = 0
 
+-- how many numbers from 1 to k pass a test
 unfoldable pub count : (ℕ → Bool) → ℕ → ℕ
 count f zero = 0
 count f (suc k) = tick (f (suc k)) + count f k

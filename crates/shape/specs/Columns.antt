@@ -33,7 +33,7 @@ lowsOf ps = map (λ P. lowestRow (P .stage)) ps
 abbrev pub ownsOf : List Process → List ℕ
 ownsOf ps = map (λ P. P .value) ps
 
--- what register i of a row must hold: i's value if the rows up to x count as written by i, else 0
+-- what register i of a row must hold: i's value if the lowest row that i has written is x or below, else 0; a row above n is asked with x = 0
 abbrev pub wantedAt : List ℕ → List ℕ → ℕ → ℕ → ℕ
 wantedAt low own x i = cond (leb (getD low (i - 1) 0) x) (getD own (i - 1) 0) 0
 

@@ -16,20 +16,20 @@ use Rattle.rules.specs.Shape.{shaped}
 use Rattle.rules.specs.Calls.{valuesOf, looked, blindly, unseen, lookOf}
 use Rattle.rules.specs.Statements.{Valid}
 use Rattle.rules.proofs.Laws.Small.{both, cond-true}
-use Rattle.moves.specs.declared.Found.{Found}
-use Rattle.moves.specs.Found.{foundOf}
+use Rattle.moves.specs.declared.Asked.{Asked}
+use Rattle.moves.specs.Asked.{askedOf}
 use Rattle.moves.proofs.Laws.{answerIn, isRecord}
 use Rattle.sight.proofs.Values.{no-values}
 
-pub refused-look : (m : Machine) (p : ℕ) (a : Answer) → foundOf m p ≡ Found.Refused a → lookOf m p ≡ unseen a
+pub refused-look : (m : Machine) (p : ℕ) (a : Answer) → askedOf m p ≡ Asked.Refused a → lookOf m p ≡ unseen a
 unfolding lookOf
 refused-look m p a = go (shaped m) (leb 1 p && leb p (m .n))
   where
-    go : (s r : Bool) → cond s (cond r (Found.Record (processOf m p)) (Found.Refused NoProcess)) (Found.Refused NotShaped) ≡ Found.Refused a
+    go : (s r : Bool) → cond s (cond r (Asked.Record (processOf m p)) (Asked.Refused NoProcess)) (Asked.Refused NotShaped) ≡ Asked.Refused a
         → cond s (cond r (looked m (stageOf m p)) (unseen NoProcess)) (unseen NotShaped) ≡ unseen a
     go true true e = absurd (true≢false (ap isRecord e))
-    go true false e = ap (λ (f : Found). unseen (answerIn f)) e
-    go false r e = ap (λ (f : Found). unseen (answerIn f)) e
+    go true false e = ap (λ (f : Asked). unseen (answerIn f)) e
+    go false r e = ap (λ (f : Asked). unseen (answerIn f)) e
 
 -- past both tests a look shows the stage
 pub look-shows : (m : Machine) (p : ℕ) → Valid m p → (s : Stage) → stageOf m p ≡ s → lookOf m p ≡ looked m s

@@ -1,5 +1,5 @@
 // The look at a process: what its record says, its accesses, and its view.
-use moves::Found;
+use moves::Asked;
 use rules::Answer;
 use rules::Machine;
 use rules::Sight;
@@ -61,8 +61,8 @@ pub fn look(m: Machine, p: u32) -> Sight
 {
     let n = m.n;
     match moves::find(n, &m.filled, &m.values, m.processes, p) {
-        Found::Refused(answer) => blind(answer, Standing::Absent, 0, 0),
-        Found::Record(process) => {
+        Asked::Refused(answer) => blind(answer, Standing::Absent, 0, 0),
+        Asked::Record(process) => {
             let stage = process.stage;
             match stage {
                 Stage::Absent => blind(Answer::Done, Standing::Absent, 0, 0),

@@ -13,7 +13,7 @@ use Rattle.rules.specs.Calls.{done, finishAt, finishOf}
 use Rattle.rules.specs.Alone.{landing, filledDown, topRow, landed, aloneAt, aloneOf}
 use Rattle.rules.proofs.Laws.Did.{goes-on}
 use Rattle.rules.proofs.Laws.Alone.{alone-is}
-use Rattle.alone.proofs.Typed.{machine-held}
+use Rattle.rules.proofs.Typed.{machine-held}
 use Rattle.moves.proofs.Laws.{refused-mover, Runs, runs, running-low, place, at-most-32}
 use Rattle.alone.proofs.Descent.{Reachable, ends-within, top-range}
 use borrow.Author.Needs.{needs}

@@ -14,7 +14,7 @@ use Rattle.rules.specs.declared.Answer.the-variants.{EnteredBefore}
 use Rattle.rules.specs.Calls.{refused, enterAt, enterOf}
 use Rattle.rules.specs.Statements.{Valid}
 use Rattle.rules.proofs.Laws.Did.{goes-on}
-use Rattle.moves.proofs.Laws.{refused-call, found-valid, place}
+use Rattle.moves.proofs.Laws.{refused-call, asked-valid, place}
 use borrow.Author.Needs.{needs}
 use Rattle.machine.proofs.enter.Statement.{statement}
 use Rattle.machine.proofs.enter.Tie as tie
@@ -52,7 +52,7 @@ abbrev Given : Here → ℕ
 Given d = d .before .before .before .before .before .before .before .before .args .v
 
 valid : (d : Here) → Valid (Ms d) (P d) × (processOf (Ms d) (P d) ≡ d .before .process .given .0 .0)
-valid d = found-valid _ _ _ (sym (d .before .before .before .find .ensures) ∙ d .before .process .given .1)
+valid d = asked-valid _ _ _ (sym (d .before .before .before .find .ensures) ∙ d .before .process .given .1)
 
 -- the call goes by its stage
 by-stage : (d : Here) (s : Stage) → d .before .process .given .0 .0 .stage ≡ s → enterAt s (Ms d) (P d) (Given d) ≡ enterOf (Ms d) (P d) (Given d)

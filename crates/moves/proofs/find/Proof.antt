@@ -3,7 +3,7 @@ use mathlib.Core.Path.{sym, _∙_}
 use borrow.Author.Tests.{not-true, not-false}
 use denote.Ref.{now}
 use Rattle.rules.specs.Statements.{Valid}
-use Rattle.moves.proofs.Laws.{unshaped, no-process, passed, found, place}
+use Rattle.moves.proofs.Laws.{unshaped, no-process, passed, asked, place}
 use borrow.Author.Needs.{needs}
 use Rattle.moves.proofs.find.Statement.{statement}
 use Rattle.moves.proofs.find.Tie as tie
@@ -46,7 +46,7 @@ array-copy-out-t17 c = place (valid c)
 returns-3 : tie.Need-returns-3
 returns-3 c =
     let a = c .before .before .before .before .before .args in
-    sym (found (record { n = a .n; filled = now (a .filled); values = now (a .values); processes = a .t4 }) (a .p) (sym (c .before .before .before .before .shaped .ensures) ∙ not-false _ (c .before .before .before .if1 .left))
+    sym (asked (record { n = a .n; filled = now (a .filled); values = now (a .values); processes = a .t4 }) (a .p) (sym (c .before .before .before .before .shaped .ensures) ∙ not-false _ (c .before .before .before .if1 .left))
     (sym (c .before .before .in-range .ensures) ∙ not-false _ (c .before .if2 .left)))
 
 pub find-spec : {M : Type 1} → statement M

@@ -1,5 +1,4 @@
 -- `orders::accepted` meets its contract: no other answer has the number 0.
-use Prim.Native.Nat.{ℕ}
 use mathlib.Core.Bool.{false}
 use mathlib.Core.Path.{_≡_, refl, sym, ap}
 use mathlib.Core.List.{[], _∷_}

@@ -4,7 +4,7 @@ use mathlib.Core.Path.{sym, ap, _∙_, subst}
 use denote.Ref.{now}
 use native.Mathlib.Omega.{arith}
 use Rattle.rules.specs.declared.Stage.{Stage}
-use Rattle.orders.specs.Places.{Lands, recordLength, put, stageBytes}
+use Rattle.orders.specs.Places.{HasRow, recordLength, put, stageBytes}
 use Rattle.orders.proofs.Places.{no-record}
 use borrow.Author.Needs.{needs}
 use Rattle.orders.proofs.put_process.Statement.{statement}
@@ -17,7 +17,7 @@ put-view-requires : tie.Need-put-view-requires
 put-view-requires c κs =
     let a = c .before .before .before .before .before in
     let g = c .before .before .stage .given in
-    let l = subst Lands (g .1) (a .pre .1) in
+    let l = subst HasRow (g .1) (a .pre .1) in
     (omega (arith, a .pre .0, ap recordLength (g .1)), l .0, l .1, a .pre .2)
 
 same-length : tie.Need-same-length

@@ -13,7 +13,7 @@ use Rattle.history.specs.Runs.{Call, enters, steps, crashes, answer, isStep}
 use Rattle.files.specs.declared.Order.{Order}
 use Rattle.files.specs.Records.{orderAt}
 use Rattle.orders.specs.declared.Counts.{Counts}
-use Rattle.orders.specs.Turns.{counted, Room}
+use Rattle.orders.specs.Turns.{counted, CountsFit}
 use Rattle.orders.proofs.Turns.{Going, going-none, over-end, over-spent, over-none, over-fault, going-enter, going-step, going-crash}
 use Rattle.orders.proofs.replay_orders.Statement.{statement}
 use Rattle.orders.proofs.replay_orders.Tie as tie
@@ -57,7 +57,7 @@ found d o e = sym (d .order-at .ensures) ∙ e
 more : (d : Here) → K d .taken < Budget d
 more d = omega (arith, going d .taken, d .before .if2 .left)
 
-room : (d : Here) → Room (K d)
+room : (d : Here) → CountsFit (K d)
 room d =
     record { more = omega (arith, more d, d .before .before .before .before .before .before .before .fits); accesses = going d .accesses; refused = going d .refused }
 

@@ -18,7 +18,8 @@ use Rattle.rules.specs.Calls.{numberOf, accepted, refused, stepOf, crash
 use Rattle.rules.specs.declared.Landing.{Landing}
 use Rattle.rules.specs.declared.Landing.the-variants.{Lands, Stuck}
 use Rattle.rules.specs.Alone.{landing, filledDown, topRow, landed, aloneAt, aloneOf, isStuck, finishLines}
-use Rattle.rules.specs.Numbers.{when, lowest, crashLines}
+use Rattle.sets.specs.Lines.{when, firstThat}
+use Rattle.rules.specs.Numbers.{crashLines}
 use Rattle.rules.specs.Statements.{Valid, Meets, FinishedAlone, RefusedAlone, FinishingAlone}
 use Rattle.rules.proofs.Laws.Small.{equal-or-not, cond-true}
 use Rattle.rules.proofs.Laws.Stores.{process-same}
@@ -109,7 +110,7 @@ record Alone (m : Machine) (p : ℕ) : Type 0 where
   found : ℕ
   stage : stageOf m p ≡ Running level made found
 
-alone : (m : Machine) (p : ℕ) → lowest (crashLines m p) ≡ 0 → Alone m p
+alone : (m : Machine) (p : ℕ) → firstThat (crashLines m p) ≡ 0 → Alone m p
 alone m p e =
     let d = what-calls-did .crash m p (eq-eqb (numberOf (crashOf m p .answer)) 0 (table-of-numbers .crash m p ∙ e)) in
     record { valid = d .0; level = d .1 .level; made = d .1 .made; found = d .1 .found; stage = d .1 .was }
@@ -126,10 +127,10 @@ entry-number m c = go (accepted c)
     go false = refl
 
 -- an accepted call had none of those lines
-accepted-lines : (m : Machine) (p : ℕ) → accepted (finishOf m p) ≡ true → lowest (crashLines m p) ≡ 0
-accepted-lines m p a = go (equal-or-not (lowest (crashLines m p)) 0)
+accepted-lines : (m : Machine) (p : ℕ) → accepted (finishOf m p) ≡ true → firstThat (crashLines m p) ≡ 0
+accepted-lines m p a = go (equal-or-not (firstThat (crashLines m p)) 0)
   where
-    go : (lowest (crashLines m p) ≡ 0) ⊎ (lowest (crashLines m p) ≢ 0) → lowest (crashLines m p) ≡ 0
+    go : (firstThat (crashLines m p) ≡ 0) ⊎ (firstThat (crashLines m p) ≢ 0) → firstThat (crashLines m p) ≡ 0
     go (inl e) = e
     go (inr ne) = sym (table-of-numbers .finish m p ne) ∙ eqb-true (numberOf (finishOf m p .answer)) 0 a
 
@@ -186,7 +187,7 @@ finish-accepts m h p a =
     difference : (a b k : ℕ) → a ≡ b + k → a - b ≡ k
     difference a b k e = omega arith
 
-finish-refuses : (m : Machine) → Held m → (p : ℕ) → lowest (crashLines m p) ≡ 0 → accepted (finishOf m p) ≡ false → RefusedAlone m p
+finish-refuses : (m : Machine) → Held m → (p : ℕ) → firstThat (crashLines m p) ≡ 0 → accepted (finishOf m p) ≡ false → RefusedAlone m p
 finish-refuses m h p e a =
     record {
       steps = first .steps;
@@ -214,17 +215,16 @@ finish-refuses m h p e a =
     first : FirstRefused (steps .0) m p
     first = first-refused (steps .0) m p off
 
-number-landed : (m : Machine) (p top : ℕ) (l : Landing) → numberOf (landed m p top l .answer) ≡ lowest (when 7 (isStuck l) ∷ [])
-unfolding lowest
+number-landed : (m : Machine) (p top : ℕ) (l : Landing) → numberOf (landed m p top l .answer) ≡ firstThat (when 7 (isStuck l) ∷ [])
 number-landed m p top (Lands y w) = refl
 number-landed m p top Stuck = refl
 
-finish-number : (m : Machine) → Held m → (p : ℕ) → numberOf (finishOf m p .answer) ≡ lowest (finishLines m p)
-unfolding aloneOf lowest
+finish-number : (m : Machine) → Held m → (p : ℕ) → numberOf (finishOf m p .answer) ≡ firstThat (finishLines m p)
+unfolding aloneOf
 finish-number m h p = ap (λ c. numberOf (c .answer)) (alone-is m h p) ∙ go (shaped m) (leb 1 p && leb p (m .n)) (stageOf m p)
   where
     go : (s r : Bool) (t : Stage) → numberOf (cond s (cond r (aloneAt t m p) (refused NoProcess m)) (refused NotShaped m) .answer)
-        ≡ lowest (when 1 (not s) ∷ when 2 (not r) ∷ when 4 (not (entered t)) ∷ when 5 (crashed t) ∷ when 6 (finished t)
+        ≡ firstThat (when 1 (not s) ∷ when 2 (not r) ∷ when 4 (not (entered t)) ∷ when 5 (crashed t) ∷ when 6 (finished t)
         ∷ when 7 (isStuck (landing (rowOf m) p (levelOf t) (madeOf (m .n) t) (foundOf t))) ∷ [])
     go false r t = refl
     go true false t = refl

@@ -16,8 +16,9 @@ use Rattle.rules.specs.State.{stageOf, rowOf, entered, finished, crashed
 use Rattle.rules.specs.Shape.{Going, shaped}
 use Rattle.rules.specs.Calls.{numberOf, done, refused, fresh, newOf, enterAt, enterOf, crashAt, crashOf, reading, settle, access, stepAt}
 use Rattle.rules.specs.Calls.{stepOf, finishAt, finishOf, looked, unseen, lookOf}
-use Rattle.rules.specs.Numbers.{Line, when, lowest, lastOfMany, always, enterLines, crashLines, stepLines}
-use Rattle.rules.specs.Statements.{none, numbered, Given, LowestIsGiven, below, ascending, LinesAscend, TableOfNumbers}
+use Rattle.sets.specs.Lines.{Line, when, firstThat}
+use Rattle.rules.specs.Numbers.{lastOfMany, always, enterLines, crashLines, stepLines}
+use Rattle.rules.specs.Statements.{none, numbered, Given, FirstIsGiven, below, ascending, LinesAscend, TableOfNumbers}
 use Rattle.rules.proofs.Laws.Small.{both, and-first, and-second, not-both, equal-or-not}
 use Rattle.rules.proofs.Laws.Did.{running, access-write, access-read, access-last, settle-finish, settle-fall, settle-stick}
 
@@ -34,71 +35,65 @@ later k l ls no-line g =
       earlier = both (not (l .applies)) (none (g .before)) (ap not no-line) (g .earlier);
     }
 
-lowest-given : (k : ℕ) → k ≢ 0 → (ls : List Line) → lowest ls ≡ k → Given k ls
-unfolding lowest
-lowest-given k ne [] e = absurd (ne (sym e))
-lowest-given k ne (l ∷ ls) e = go (l .applies) refl (lowest-given k ne ls) e
+first-given : (k : ℕ) → k ≢ 0 → (ls : List Line) → firstThat ls ≡ k → Given k ls
+first-given k ne [] e = absurd (ne (sym e))
+first-given k ne (l ∷ ls) e = go (l .applies) refl (first-given k ne ls) e
   where
-    go : (b : Bool) → l .applies ≡ b → (lowest ls ≡ k → Given k ls) → (elim b as (λ _. ℕ) [ true ↦ l .number | false ↦ lowest ls ]) ≡ k
+    go : (b : Bool) → l .applies ≡ b → (firstThat ls ≡ k → Given k ls) → cond b (l .number) (firstThat ls) ≡ k
         → Given k (l ∷ ls)
     go true a rest q = record { before = []; line = l; after = ls; all = refl; number = q; applies = a; earlier = refl }
     go false a rest q = later k l ls a (rest q)
 
-skip : (before ls : List Line) → none before ≡ true → lowest (before ++ ls) ≡ lowest ls
-unfolding lowest
+skip : (before ls : List Line) → none before ≡ true → firstThat (before ++ ls) ≡ firstThat ls
 skip [] ls n = refl
 skip (l ∷ before) ls n = go (l .applies) refl (skip before ls (and-second (not (l .applies)) (none before) n))
   where
-    go : (b : Bool) → l .applies ≡ b → lowest (before ++ ls) ≡ lowest ls
-        → (elim b as (λ _. ℕ) [ true ↦ l .number | false ↦ lowest (before ++ ls) ]) ≡ lowest ls
+    go : (b : Bool) → l .applies ≡ b → firstThat (before ++ ls) ≡ firstThat ls
+        → cond b (l .number) (firstThat (before ++ ls)) ≡ firstThat ls
     go true a rest = absurd (false≢true (sym (ap not a) ∙ and-first (not (l .applies)) (none before) n))
     go false a rest = rest
 
-given-lowest : (k : ℕ) (ls : List Line) → Given k ls → lowest ls ≡ k
-unfolding lowest
-given-lowest k ls g = ap lowest (g .all) ∙ skip (g .before) (g .line ∷ g .after) (g .earlier) ∙ here (g .line .applies) (g .applies)
+given-first : (k : ℕ) (ls : List Line) → Given k ls → firstThat ls ≡ k
+given-first k ls g = ap firstThat (g .all) ∙ skip (g .before) (g .line ∷ g .after) (g .earlier) ∙ here (g .line .applies) (g .applies)
   where
-    here : (b : Bool) → b ≡ true → (elim b as (λ _. ℕ) [ true ↦ g .line .number | false ↦ lowest (g .after) ]) ≡ k
+    here : (b : Bool) → b ≡ true → cond b (g .line .number) (firstThat (g .after)) ≡ k
     here true e = g .number
     here false e = absurd (false≢true e)
 
-none-lowest : (ls : List Line) → none ls ≡ true → lowest ls ≡ 0
-unfolding lowest
-none-lowest [] n = refl
-none-lowest (l ∷ ls) n = go (l .applies) (and-first (not (l .applies)) (none ls) n) (none-lowest ls (and-second (not (l .applies)) (none ls) n))
+none-first : (ls : List Line) → none ls ≡ true → firstThat ls ≡ 0
+none-first [] n = refl
+none-first (l ∷ ls) n = go (l .applies) (and-first (not (l .applies)) (none ls) n) (none-first ls (and-second (not (l .applies)) (none ls) n))
   where
-    go : (b : Bool) → not b ≡ true → lowest ls ≡ 0 → _≡_ {A = ℕ} (elim b as (λ _. ℕ) [ true ↦ l .number | false ↦ lowest ls ]) 0
+    go : (b : Bool) → not b ≡ true → firstThat ls ≡ 0 → cond b (l .number) (firstThat ls) ≡ 0
     go true a rest = absurd (false≢true a)
     go false a rest = rest
 
-lowest-none : (ls : List Line) → numbered ls ≡ true → lowest ls ≡ 0 → none ls ≡ true
-unfolding lowest
-lowest-none [] w e = refl
-lowest-none (l ∷ ls) w e = go (l .applies) (lowest-none ls (and-second (not (eqb (l .number) 0)) (numbered ls) w)) e
+first-none : (ls : List Line) → numbered ls ≡ true → firstThat ls ≡ 0 → none ls ≡ true
+first-none [] w e = refl
+first-none (l ∷ ls) w e = go (l .applies) (first-none ls (and-second (not (eqb (l .number) 0)) (numbered ls) w)) e
   where
-    go : (b : Bool) → (lowest ls ≡ 0 → none ls ≡ true) → _≡_ {A = ℕ} (elim b as (λ _. ℕ) [ true ↦ l .number | false ↦ lowest ls ]) 0
+    go : (b : Bool) → (firstThat ls ≡ 0 → none ls ≡ true) → cond b (l .number) (firstThat ls) ≡ 0
         → (not b && none ls) ≡ true
     go true rest q = absurd (false≢true (sym (ap not (eq-eqb (l .number) 0 q)) ∙ and-first (not (eqb (l .number) 0)) (numbered ls) w))
     go false rest q = rest q
 
-pub lowest-is-given : LowestIsGiven
-lowest-is-given =
+pub first-is-given : FirstIsGiven
+first-is-given =
     record {
-      some = λ k ne ls. (lowest-given k ne ls, given-lowest k ls);
-      nothing = λ ls w. (lowest-none ls w, none-lowest ls);
+      some = λ k ne ls. (first-given k ne ls, given-first k ls);
+      nothing = λ ls w. (first-none ls w, none-first ls);
     }
 
 below-all : (k : ℕ) (ls : List Line) → below k ls ≡ true → (l : Line) → List·Memᴰ l ls → k < l .number
 below-all k (x ∷ xs) b l (List·Memᴰ·head e) = subst (λ y. k < y .number) (sym e) (ltb-true k (x .number) (and-first (ltb k (x .number)) _ b))
 below-all k (x ∷ xs) b l (List·Memᴰ·tail h) = below-all k xs (and-second (ltb k (x .number)) _ b) l h
 
-lowest-applies : (ls : List Line) → ascending ls ≡ true → (l : Line) → List·Memᴰ l ls → l .applies ≡ true → lowest ls ≤ l .number
-unfolding lowest
+lowest-applies : (ls : List Line) → ascending ls ≡ true → (l : Line) → List·Memᴰ l ls → l .applies ≡ true → firstThat ls ≤ l .number
 lowest-applies (x ∷ xs) up l h a =
     go (x .applies) refl (List·Memᴰ·cases-cons h) (λ h. lowest-applies xs (and-second (below (x .number) xs) _ up) l h a)
   where
-    go : (b : Bool) → x .applies ≡ b → (l ≡ x) ⊎ List·Memᴰ l xs → (List·Memᴰ l xs → lowest xs ≤ l .number)
-        → (elim b as (λ _. ℕ) [ true ↦ x .number | false ↦ lowest xs ]) ≤ l .number
+    go : (b : Bool) → x .applies ≡ b → (l ≡ x) ⊎ List·Memᴰ l xs → (List·Memᴰ l xs → firstThat xs ≤ l .number)
+        → cond b (x .number) (firstThat xs) ≤ l .number
     go true t (inl e) rest = subst (λ y. x .number ≤ y .number) (sym e) (omega arith)
     go true t (inr h) rest = omega (arith, below-all (x .number) xs (and-first (below (x .number) xs) _ up) l h)
     go false t (inl e) rest = not-both (x .applies) (sym (ap (λ y. y .applies) e) ∙ a) t
@@ -116,12 +111,12 @@ lines-ascend =
     }
 
 -- Each call.
-number-enter : (m : Machine) (p v : ℕ) → numberOf (enterOf m p v .answer) ≡ lowest (enterLines m p)
-unfolding enterOf lowest
+number-enter : (m : Machine) (p v : ℕ) → numberOf (enterOf m p v .answer) ≡ firstThat (enterLines m p)
+unfolding enterOf
 number-enter m p v = go (shaped m) (leb 1 p && leb p (m .n)) (stageOf m p)
   where
     go : (s r : Bool) (t : Stage) → numberOf (cond s (cond r (enterAt t m p v) (refused NoProcess m)) (refused NotShaped m) .answer)
-        ≡ lowest (when 1 (not s) ∷ when 2 (not r) ∷ when 3 (entered t) ∷ [])
+        ≡ firstThat (when 1 (not s) ∷ when 2 (not r) ∷ when 3 (entered t) ∷ [])
     go false r t = refl
     go true false t = refl
     go true true Absent = refl
@@ -129,12 +124,12 @@ number-enter m p v = go (shaped m) (leb 1 p && leb p (m .n)) (stageOf m p)
     go true true (Finished x w) = refl
     go true true (Crashed x k f) = refl
 
-number-crash : (m : Machine) (p : ℕ) → numberOf (crashOf m p .answer) ≡ lowest (crashLines m p)
-unfolding crashOf lowest
+number-crash : (m : Machine) (p : ℕ) → numberOf (crashOf m p .answer) ≡ firstThat (crashLines m p)
+unfolding crashOf
 number-crash m p = go (shaped m) (leb 1 p && leb p (m .n)) (stageOf m p)
   where
     go : (s r : Bool) (t : Stage) → numberOf (cond s (cond r (crashAt t m p) (refused NoProcess m)) (refused NotShaped m) .answer)
-        ≡ lowest (when 1 (not s) ∷ when 2 (not r) ∷ when 4 (not (entered t)) ∷ when 5 (crashed t) ∷ when 6 (finished t) ∷ [])
+        ≡ firstThat (when 1 (not s) ∷ when 2 (not r) ∷ when 4 (not (entered t)) ∷ when 5 (crashed t) ∷ when 6 (finished t) ∷ [])
     go false r t = refl
     go true false t = refl
     go true true Absent = refl
@@ -142,14 +137,14 @@ number-crash m p = go (shaped m) (leb 1 p && leb p (m .n)) (stageOf m p)
     go true true (Finished x w) = refl
     go true true (Crashed x k f) = refl
 
-number-finish : (m : Machine) (p : ℕ) → lowest (crashLines m p) ≢ 0 → numberOf (finishOf m p .answer) ≡ lowest (crashLines m p)
-unfolding finishOf lowest
+number-finish : (m : Machine) (p : ℕ) → firstThat (crashLines m p) ≢ 0 → numberOf (finishOf m p .answer) ≡ firstThat (crashLines m p)
+unfolding finishOf
 number-finish m p = go (shaped m) (leb 1 p && leb p (m .n)) (stageOf m p)
   where
     go : (s r : Bool) (t : Stage)
-        → lowest (when 1 (not s) ∷ when 2 (not r) ∷ when 4 (not (entered t)) ∷ when 5 (crashed t) ∷ when 6 (finished t) ∷ []) ≢ 0
+        → firstThat (when 1 (not s) ∷ when 2 (not r) ∷ when 4 (not (entered t)) ∷ when 5 (crashed t) ∷ when 6 (finished t) ∷ []) ≢ 0
         → numberOf (cond s (cond r (finishAt t m p) (refused NoProcess m)) (refused NotShaped m) .answer)
-        ≡ lowest (when 1 (not s) ∷ when 2 (not r) ∷ when 4 (not (entered t)) ∷ when 5 (crashed t) ∷ when 6 (finished t) ∷ [])
+        ≡ firstThat (when 1 (not s) ∷ when 2 (not r) ∷ when 4 (not (entered t)) ∷ when 5 (crashed t) ∷ when 6 (finished t) ∷ [])
     go false r t ne = refl
     go true false t ne = refl
     go true true Absent ne = refl
@@ -158,10 +153,9 @@ number-finish m p = go (shaped m) (leb 1 p && leb p (m .n)) (stageOf m p)
     go true true (Crashed x k f) ne = refl
 
 -- 7, or no number
-seven : (b c : Bool) → b ≡ c → lowest (when 7 b ∷ []) ≡ cond c 7 0
-unfolding lowest
-seven b true e = ap (λ b. lowest (when 7 b ∷ [])) e
-seven b false e = ap (λ b. lowest (when 7 b ∷ [])) e
+seven : (b c : Bool) → b ≡ c → firstThat (when 7 b ∷ []) ≡ cond c 7 0
+seven b true e = ap (λ b. firstThat (when 7 b ∷ [])) e
+seven b false e = ap (λ b. firstThat (when 7 b ∷ [])) e
 
 fails-first : (a b c : Bool) → a ≡ false → (a && b && c) ≡ false
 fails-first a b c e = ap (λ a. a && b && c) e
@@ -176,7 +170,7 @@ fails-third true false c e = refl
 fails-third false b c e = refl
 
 number-access : (m : Machine) (p x k f : ℕ) → Going (m .n) (rowOf m) x k f → 1 ≤ m .n
-    → numberOf (access m p x k f .answer) ≡ lowest (when 7 (eqb x 1 && eqb k (m .n) && not (eqb (size (reading (rowOf m x) k f)) 1)) ∷ [])
+    → numberOf (access m p x k f .answer) ≡ firstThat (when 7 (eqb x 1 && eqb k (m .n) && not (eqb (size (reading (rowOf m x) k f)) 1)) ∷ [])
 number-access m p x k f g some = go (equal-or-not k 0) (equal-or-not k (m .n)) (equal-or-not (size (reading (rowOf m x) k f)) x) (equal-or-not x 1)
   where
     w : Bool
@@ -186,7 +180,7 @@ number-access m p x k f g some = go (equal-or-not k 0) (equal-or-not k (m .n)) (
     last q = subst (λ j. access m p x j f ≡ settle m p x (reading (rowOf m x) j f)) (sym q) (access-last m p x f some)
 
     go : (k ≡ 0) ⊎ (k ≢ 0) → (k ≡ m .n) ⊎ (k ≢ m .n) → (size (reading (rowOf m x) k f) ≡ x) ⊎ (size (reading (rowOf m x) k f) ≢ x) → (x ≡ 1) ⊎ (x ≢ 1)
-        → numberOf (access m p x k f .answer) ≡ lowest (when 7 w ∷ [])
+        → numberOf (access m p x k f .answer) ≡ firstThat (when 7 w ∷ [])
     go (inl z) b s o =
         let ne : k ≢ m .n = omega arith in
         subst (λ j. numberOf (access m p x j f .answer) ≡ 0) (sym z) (ap (λ c. numberOf (c .answer)) (access-write m p x f))
@@ -214,13 +208,13 @@ number-access m p x k f g some = go (equal-or-not k 0) (equal-or-not k (m .n)) (
         ∙ sym (seven w true (both (eqb x 1 && eqb k (m .n)) _ (both (eqb x 1) _ (eq-eqb x 1 o) (eq-eqb k (m .n) q))
         (ap not (ne-eqb (size (reading (rowOf m x) k f)) 1 many))))
 
-number-step : (m : Machine) (p : ℕ) → numberOf (stepOf m p .answer) ≡ lowest (stepLines m p)
-unfolding stepOf lowest
+number-step : (m : Machine) (p : ℕ) → numberOf (stepOf m p .answer) ≡ firstThat (stepLines m p)
+unfolding stepOf
 number-step m p = go (shaped m) (leb 1 p && leb p (m .n)) (stageOf m p) refl refl refl
   where
     go : (s r : Bool) (t : Stage) → shaped m ≡ s → (leb 1 p && leb p (m .n)) ≡ r → stageOf m p ≡ t
         → numberOf (cond s (cond r (stepAt t m p) (refused NoProcess m)) (refused NotShaped m) .answer)
-        ≡ lowest (when 1 (not s) ∷ when 2 (not r) ∷ when 4 (not (entered t)) ∷ when 5 (crashed t) ∷ when 6 (finished t) ∷ when 7 (lastOfMany m t) ∷ [])
+        ≡ firstThat (when 1 (not s) ∷ when 2 (not r) ∷ when 4 (not (entered t)) ∷ when 5 (crashed t) ∷ when 6 (finished t) ∷ when 7 (lastOfMany m t) ∷ [])
     go false r t e₁ e₂ e₃ = refl
     go true false t e₁ e₂ e₃ = refl
     go true true Absent e₁ e₂ e₃ = refl
@@ -232,22 +226,22 @@ number-step m p = go (shaped m) (leb 1 p && leb p (m .n)) (stageOf m p) refl ref
     go true true (Finished x w) e₁ e₂ e₃ = refl
     go true true (Crashed x k f) e₁ e₂ e₃ = refl
 
-number-look : (m : Machine) (p : ℕ) → numberOf (lookOf m p .answer) ≡ lowest (always m p)
-unfolding lookOf lowest
+number-look : (m : Machine) (p : ℕ) → numberOf (lookOf m p .answer) ≡ firstThat (always m p)
+unfolding lookOf
 number-look m p = go (shaped m) (leb 1 p && leb p (m .n))
   where
     go : (s r : Bool)
         → numberOf (cond s (cond r (looked m (stageOf m p)) (unseen NoProcess)) (unseen NotShaped) .answer)
-        ≡ lowest (when 1 (not s) ∷ when 2 (not r) ∷ [])
+        ≡ firstThat (when 1 (not s) ∷ when 2 (not r) ∷ [])
     go true true = refl
     go true false = refl
     go false r = refl
 
-number-new : (n : ℕ) → numberOf (newOf n .answer) ≡ lowest (when 8 (not (leb 1 n && leb n 32)) ∷ [])
-unfolding newOf lowest
+number-new : (n : ℕ) → numberOf (newOf n .answer) ≡ firstThat (when 8 (not (leb 1 n && leb n 32)) ∷ [])
+unfolding newOf
 number-new n = go (leb 1 n && leb n 32)
   where
-    go : (b : Bool) → numberOf (cond b (done (fresh n)) (refused OutOfRange (fresh 1)) .answer) ≡ lowest (when 8 (not b) ∷ [])
+    go : (b : Bool) → numberOf (cond b (done (fresh n)) (refused OutOfRange (fresh 1)) .answer) ≡ firstThat (when 8 (not b) ∷ [])
     go true = refl
     go false = refl
 

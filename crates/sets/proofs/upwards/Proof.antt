@@ -6,8 +6,6 @@ use Rattle.sets.proofs.Laws.{upwards-all, upwards-none, cleared-upwards
 use borrow.Author.Needs.{needs}
 use Rattle.sets.proofs.upwards.Statement.{statement}
 use Rattle.sets.proofs.upwards.Tie as tie
-use Rattle.sets.proofs.upwards.Reads as reads
-use Rattle.sets.proofs.upwards.Lts as lts
 
 returns : tie.Need-returns
 returns c = upwards-all (c .before .args .s) (c .before .args .from) (c .before .fits .s .fits) (c .if1 .taken)

@@ -12,7 +12,7 @@ use Rattle.rules.specs.declared.Answer.the-variants.{Done}
 use Rattle.rules.specs.State.{stageOf}
 use Rattle.rules.specs.Calls.{blindly}
 use Rattle.rules.specs.Statements.{Valid}
-use Rattle.moves.proofs.Laws.{found-valid, standing, at-most-32}
+use Rattle.moves.proofs.Laws.{asked-valid, standing, at-most-32}
 use Rattle.sight.proofs.Looks.{refused-look, look-shows, looked-blindly}
 use borrow.Author.Needs.{needs}
 use Rattle.sight.proofs.look.Statement.{statement}
@@ -43,7 +43,7 @@ enum-known-stage c = search needs
 at : (c : tie.After-known-told2) (s : Stage) → c .before .process .given .0 .0 .stage ≡ s
     → Valid (c .before .before .before .before .before .before .before .before .args .t1) (c .before .before .before .before .before .before .before .before .args .p) × (stageOf (c .before .before .before .before .before .before .before .before .args .t1) (c .before .before .before .before .before .before .before .before .args .p) ≡ s)
 at c s e =
-    let v = found-valid (c .before .before .before .before .before .before .before .before .args .t1) (c .before .before .before .before .before .before .before .before .args .p) _ (sym (c .before .before .before .find .ensures) ∙ c .before .process .given .1) in
+    let v = asked-valid (c .before .before .before .before .before .before .before .before .args .t1) (c .before .before .before .before .before .before .before .before .args .p) _ (sym (c .before .before .before .find .ensures) ∙ c .before .process .given .1) in
     (v .0, ap (λ (P : Process). P .stage) (v .1) ∙ e)
 
 accesses-requires : tie.Need-accesses-requires

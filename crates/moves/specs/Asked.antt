@@ -9,12 +9,12 @@ use Rattle.rules.specs.declared.Machine.{Machine}
 use Rattle.rules.specs.declared.Answer.the-variants.{NotShaped, NoProcess, NeverEntered, HasCrashed, HasFinished}
 use Rattle.rules.specs.State.{processOf}
 use Rattle.rules.specs.Shape.{shaped}
-use Rattle.moves.specs.declared.Found.{Found}
+use Rattle.moves.specs.declared.Asked.{Asked}
 use Rattle.moves.specs.declared.Mover.{Mover}
 
 -- 1 and 2
-abbrev pub foundOf : Machine → ℕ → Found
-foundOf m p = cond (shaped m) (cond (leb 1 p && leb p (m .n)) (Found.Record (processOf m p)) (Found.Refused NoProcess)) (Found.Refused NotShaped)
+abbrev pub askedOf : Machine → ℕ → Asked
+askedOf m p = cond (shaped m) (cond (leb 1 p && leb p (m .n)) (Asked.Record (processOf m p)) (Asked.Refused NoProcess)) (Asked.Refused NotShaped)
 
 -- 4, 5 and 6
 abbrev pub moverBy : Stage → ℕ → Mover
@@ -26,9 +26,9 @@ moverBy (Crashed x k f) v = Mover.Refused HasCrashed
 abbrev pub moverAt : Process → Mover
 moverAt P = moverBy (P .stage) (P .value)
 
-abbrev pub moverIn : Found → Mover
-moverIn (Found.Record P) = moverAt P
-moverIn (Found.Refused a) = Mover.Refused a
+abbrev pub moverIn : Asked → Mover
+moverIn (Asked.Record P) = moverAt P
+moverIn (Asked.Refused a) = Mover.Refused a
 
 abbrev pub moverOf : Machine → ℕ → Mover
-moverOf m p = moverIn (foundOf m p)
+moverOf m p = moverIn (askedOf m p)

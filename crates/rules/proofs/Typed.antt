@@ -1,4 +1,4 @@
--- What the declared types say of a machine that a function is handed: its arrays' lengths, and that its rows are 32-bit sets.
+-- What the declared types say of a machine that a function is handed: its arrays' lengths, and that its sets and values are 32-bit numbers.
 use mathlib.Core.Path.{_≡_, sym, _∙_}
 use mathlib.Core.List.{List, [], _∷_, map}
 use Prim.Native.Nat.{ℕ, zero, suc, _-_, _^_, _<_}
@@ -13,16 +13,16 @@ use denote.Laws.{Is}
 use denote.Struct.Declared.{row}
 use denote.Struct.Laws.{val}
 use borrow.Author.Needs.{elem-fits-field, length-unmapped}
 use Rattle.rules.specs.declared.Machine.{Machine}
 use Rattle.rules.specs.declared.Stage.{Stage}
 use Rattle.rules.specs.declared.Stage.the-variants.{Absent, Running, Finished, Crashed}
 use Rattle.rules.specs.declared.Process.{Process}
 use Rattle.rules.specs.State.{nobody, foundOf}
-use Rattle.rules.specs.Shape.{Held}
+use Rattle.rules.specs.Shape.{Held, Words}
 use Rattle.rules.proofs.Stage as Stage-row
 use Rattle.rules.proofs.Process as Process-row
 use Rattle.rules.proofs.Machine.{the-type}
 use Rattle.rules.proofs.Machine.Laws.{the-laws}
 
 -- m is a value of the declared type
 abbrev pub IsMachine : Machine → Type 0
@@ -62,3 +62,14 @@ machine-held m g = record {
   row = λ x. filled-fits m g (x - 1);
   found = λ i. found-fits (m .processes) (g .1 .1 .1 .1 .1 .0 .0) (g .1 .1 .1 .1 .1 .0 .1 .1) (i - 1);
 }
+
+-- so is what it deposited
+value-fits : (ps : List Process) (us : List Val) → shadow (each (Process-row.the-field .row .Denot) (Process-row.the-field .row .own) (map (Process-row.the-field .into) ps) us)
+    → (k : ℕ) → getD ps k nobody .value < 2 ^ 32
+value-fits [] us g k = lit< tt
+value-fits (P ∷ ps) [] g k = absurd g
+value-fits (P ∷ ps) (u ∷ us) g zero = omega (arith, g .0 .1 .1 .1)
+value-fits (P ∷ ps) (u ∷ us) g (suc k) = value-fits ps us (g .1) k
+
+pub machine-words : (m : Machine) → IsMachine m → Words m
+machine-words m g i lo hi = value-fits (m .processes) (g .1 .1 .1 .1 .1 .0 .0) (g .1 .1 .1 .1 .1 .0 .1 .1) (i - 1)
