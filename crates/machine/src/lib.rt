@@ -1,5 +1,4 @@
 // The machine of document 01, one one-shot immediate snapshot for n processes, and the calls that an order makes, one register access at a time.
-// A call that changes a machine has one way out, which costs a copy of the state less.
 use moves::Asked;
 use moves::Move;
 use moves::Mover;
@@ -52,11 +51,8 @@ pub fn new(n: u32) -> Called
 pub fn enter(mut m: Machine, p: u32, v: u32) -> Called
     ensures { λ r. ⌜ r ≡ enterOf m p v ⌝ }
 {
-    let mut answer = Answer::Done;
     match moves::find(m.n, &m.filled, &m.values, m.processes, p) {
-        Asked::Refused(a) => {
-            answer = a;
-        }
+        Asked::Refused(answer) => Called { machine: m, answer },
         Asked::Record(process) => {
             let stage = process.stage;
             match stage {
@@ -69,25 +65,26 @@ pub fn enter(mut m: Machine, p: u32, v: u32) -> Called
                         },
                         value: v,
                     };
+                    Called {
+                        machine: m,
+                        answer: Answer::Done,
+                    }
                 }
-                _ => {
-                    answer = Answer::EnteredBefore;
-                }
+                _ => Called {
+                    machine: m,
+                    answer: Answer::EnteredBefore,
+                },
             }
         }
     }
-    Called { machine: m, answer }
 }
 
 // Process p crashes where it stands (rule 6); refuses 1, 2, 4, 5, 6.
 pub fn crash(mut m: Machine, p: u32) -> Called
     ensures { λ r. ⌜ r ≡ crashOf m p ⌝ }
 {
-    let mut answer = Answer::Done;
     match moves::find_running(m.n, &m.filled, &m.values, m.processes, p) {
-        Mover::Refused(a) => {
-            answer = a;
-        }
+        Mover::Refused(answer) => Called { machine: m, answer },
         Mover::Running {
             level,
             made,
@@ -98,12 +95,15 @@ pub fn crash(mut m: Machine, p: u32) -> Called
                 stage: Stage::Crashed { level, made, found },
                 value,
             };
+            Called {
+                machine: m,
+                answer: Answer::Done,
+            }
         }
     }
-    Called { machine: m, answer }
 }
 
-// One register access of process p (rules 4 and 5); refuses 1, 2, 4, 5, 6, 7.
+// One register access of process p (rules 4 and 5); refuses 1, 2, 4, 5, 6, 7. One way out, which costs a copy of the state less.
 pub fn step(mut m: Machine, p: u32) -> Called
     ensures { λ r. ⌜ r ≡ stepOf m p ⌝ }
 {

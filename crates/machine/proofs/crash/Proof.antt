@@ -13,8 +13,8 @@ use Rattle.machine.proofs.crash.Tie as tie
 find-running-requires : tie.Need-find-running-requires
 find-running-requires c κs = search needs
 
-enum-known-a : tie.Need-enum-known-a
-enum-known-a c = search needs
+enum-known-answer : tie.Need-enum-known-answer
+enum-known-answer c = search needs
 
 enum-known-level : tie.Need-enum-known-level
 enum-known-level c = search needs
@@ -24,14 +24,14 @@ at : (c : tie.After-known-told2) → Runs (c .before .before .before .before .be
     (c .before .level .given .0 .1 .1 .0) (c .before .level .given .0 .1 .1 .1 .0)
 at c = runs _ _ _ _ _ _ (sym (c .before .before .before .find-running .ensures) ∙ c .before .level .given .1)
 
-sub-t17 : tie.Need-sub-t17
-sub-t17 c = at c .valid .low
+sub-t18 : tie.Need-sub-t18
+sub-t18 c = at c .valid .low
 
-cast-t18 : tie.Need-cast-t18
-cast-t18 c = search needs
+cast-t19 : tie.Need-cast-t19
+cast-t19 c = search needs
 
-mul-t19 : tie.Need-mul-t19
-mul-t19 c = search needs
+mul-t20 : tie.Need-mul-t20
+mul-t20 c = search needs
 
 element-set-from-m : tie.Need-element-set-from-m
 element-set-from-m c = place (at c .valid)
@@ -40,8 +40,8 @@ returns : tie.Need-returns
 unfolding crashOf
 returns c =
     let a = c .before .before .before .before .before .before .before .before .args in
-    sym (refused-mover (a .t1) (a .p) (c .before .a .given .0 .0) (λ s. crashAt s (a .t1) (a .p)) (record { absent = refl; finished = λ x w. refl; crashed = λ x k f. refl })
-    (sym (c .before .before .before .find-running .ensures) ∙ c .before .a .given .1))
+    sym (refused-mover (a .t1) (a .p) (c .before .answer .given .0 .0) (λ s. crashAt s (a .t1) (a .p)) (record { absent = refl; finished = λ x w. refl; crashed = λ x k f. refl })
+    (sym (c .before .before .before .find-running .ensures) ∙ c .before .answer .given .1))
 
 returns-2 : tie.Need-returns-2
 returns-2 c =
@@ -56,11 +56,11 @@ crash-spec =
     tie.close
     (tie.spec
     find-running-requires
-    enum-known-a
+    enum-known-answer
     enum-known-level
-    sub-t17
-    cast-t18
-    mul-t19
+    sub-t18
+    cast-t19
+    mul-t20
     element-set-from-m
     returns
     returns-2)

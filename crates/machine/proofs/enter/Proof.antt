@@ -22,8 +22,8 @@ use Rattle.machine.proofs.enter.Tie as tie
 find-requires : tie.Need-find-requires
 find-requires c κs = search needs
 
-enum-known-a : tie.Need-enum-known-a
-enum-known-a c = search needs
+enum-known-answer : tie.Need-enum-known-answer
+enum-known-answer c = search needs
 
 enum-known-process : tie.Need-enum-known-process
 enum-known-process c = search needs
@@ -61,14 +61,14 @@ by-stage d s e =
     sym (goes-on (Ms d) (P d) (valid d .0) (enterAt (stageOf (Ms d) (P d)) (Ms d) (P d) (Given d))
     ∙ ap (λ (s : Stage). enterAt s (Ms d) (P d) (Given d)) (ap (λ (Q : Process). Q .stage) (valid d .1) ∙ e))
 
-sub-t17 : tie.Need-sub-t17
-sub-t17 c = valid (c .before .before) .0 .low
+sub-t19 : tie.Need-sub-t19
+sub-t19 c = valid (c .before .before) .0 .low
 
-cast-t18 : tie.Need-cast-t18
-cast-t18 c = search needs
+cast-t20 : tie.Need-cast-t20
+cast-t20 c = search needs
 
-mul-t19 : tie.Need-mul-t19
-mul-t19 c = search needs
+mul-t21 : tie.Need-mul-t21
+mul-t21 c = search needs
 
 element-set-from-m : tie.Need-element-set-from-m
 element-set-from-m c = place (valid (c .before .before) .0)
@@ -77,8 +77,8 @@ returns : tie.Need-returns
 unfolding enterOf
 returns c =
     let a = c .before .before .before .before .before .before .before .before .args in
-    sym (refused-call (a .t1) (a .p) (c .before .a .given .0 .0) (enterAt (stageOf (a .t1) (a .p)) (a .t1) (a .p) (a .v))
-    (sym (c .before .before .before .find .ensures) ∙ c .before .a .given .1))
+    sym (refused-call (a .t1) (a .p) (c .before .answer .given .0 .0) (enterAt (stageOf (a .t1) (a .p)) (a .t1) (a .p) (a .v))
+    (sym (c .before .before .before .find .ensures) ∙ c .before .answer .given .1))
 
 returns-2 : tie.Need-returns-2
 returns-2 c = by-stage (c .before .before) _ (c .enum-told .given .1)
@@ -93,12 +93,12 @@ enter-spec =
     tie.close
     (tie.spec
     find-requires
-    enum-known-a
+    enum-known-answer
     enum-known-process
     enum-told
-    sub-t17
-    cast-t18
-    mul-t19
+    sub-t19
+    cast-t20
+    mul-t21
     element-set-from-m
     returns
     returns-2
