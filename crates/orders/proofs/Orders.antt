@@ -65,31 +65,6 @@ orderNumber (Order.Enter p v) = 0
 orderNumber (Order.Step p) = 0
 orderNumber (Order.Crash p) = 0
 
-number-chain : (a b en st cr f g : Bool) (p v : ℕ)
-    → orderNumber (chain a b en st cr (bodied f (Order.Enter p v)) (bodied g (Order.Step p)) (bodied g (Order.Crash p)))
-    ≡ firstThat (when 11 a ∷ when 12 b ∷ when 10 (not (en || st || cr)) ∷ when 11 (cond en (not f) (not g)) ∷ [])
-unfolding chain bodied
-number-chain true b en st cr f g p v = refl
-number-chain false true en st cr f g p v = refl
-number-chain false false true st cr true g p v = refl
-number-chain false false true st cr false g p v = refl
-number-chain false false false true cr f true p v = refl
-number-chain false false false true cr f false p v = refl
-number-chain false false false false true f true p v = refl
-number-chain false false false false true f false p v = refl
-number-chain false false false false false f g p v = refl
-
-pub order-number : (s : List ℕ) (at : ℕ) → at < length s → orderNumber (orderAt s at) ≡ firstThat (orderLines s at)
-order-number s at h =
-    let long : not (fits s at 5) ≡ ltb (length s) (at + 7) = not-leb (at + 2 + 5) (length s) (at + 7) (omega arith) in
-    let short : not (fits s at 1) ≡ ltb (length s) (at + 3) = not-leb (at + 2 + 1) (length s) (at + 3) (omega arith) in
-    ap orderNumber (order-is s at h)
-    ∙ number-chain (eqb (length s) (at + 1)) (marked s at 77 78) (marked s at 69 78) (marked s at 83 84) (marked s at 67 82) (fits s at 5) (fits s at 1)
-    (byteAt s (at + 2)) (wordAt s (at + 3))
-    ∙ ap₂ (λ (x y : Bool). firstThat (when 11 (eqb (length s) (at + 1)) ∷ when 12 (marked s at 77 78)
-    ∷ when 10 (not (marked s at 69 78 || marked s at 83 84 || marked s at 67 82)) ∷ when 11 (cond (marked s at 69 78) x y) ∷ [])) long short
-
--- where bytes are left there is no end
 abbrev isEnd : Order → Bool
 isEnd Order.End = true
 isEnd (Order.Fault a) = false
@@ -97,23 +72,36 @@ isEnd (Order.Enter p v) = false
 isEnd (Order.Step p) = false
 isEnd (Order.Crash p) = false
 
-end-chain : (a b en st cr f g : Bool) (p v : ℕ)
-    → isEnd (chain a b en st cr (bodied f (Order.Enter p v)) (bodied g (Order.Step p)) (bodied g (Order.Crash p))) ≡ false
+-- the number of what the tests lead to; and where bytes are left there is no end
+of-chain : (a b en st cr f g : Bool) (p v : ℕ)
+    → (orderNumber (chain a b en st cr (bodied f (Order.Enter p v)) (bodied g (Order.Step p)) (bodied g (Order.Crash p)))
+    ≡ firstThat (when 11 a ∷ when 12 b ∷ when 10 (not (en || st || cr)) ∷ when 11 (cond en (not f) (not g)) ∷ []))
+    × (isEnd (chain a b en st cr (bodied f (Order.Enter p v)) (bodied g (Order.Step p)) (bodied g (Order.Crash p))) ≡ false)
 unfolding chain bodied
-end-chain true b en st cr f g p v = refl
-end-chain false true en st cr f g p v = refl
-end-chain false false true st cr true g p v = refl
-end-chain false false true st cr false g p v = refl
-end-chain false false false true cr f true p v = refl
-end-chain false false false true cr f false p v = refl
-end-chain false false false false true f true p v = refl
-end-chain false false false false true f false p v = refl
-end-chain false false false false false f g p v = refl
+of-chain true b en st cr f g p v = (refl, refl)
+of-chain false true en st cr f g p v = (refl, refl)
+of-chain false false true st cr true g p v = (refl, refl)
+of-chain false false true st cr false g p v = (refl, refl)
+of-chain false false false true cr f true p v = (refl, refl)
+of-chain false false false true cr f false p v = (refl, refl)
+of-chain false false false false true f true p v = (refl, refl)
+of-chain false false false false true f false p v = (refl, refl)
+of-chain false false false false false f g p v = (refl, refl)
+
+pub order-number : (s : List ℕ) (at : ℕ) → at < length s → orderNumber (orderAt s at) ≡ firstThat (orderLines s at)
+order-number s at h =
+    let long : not (fits s at 5) ≡ ltb (length s) (at + 7) = not-leb (at + 2 + 5) (length s) (at + 7) (omega arith) in
+    let short : not (fits s at 1) ≡ ltb (length s) (at + 3) = not-leb (at + 2 + 1) (length s) (at + 3) (omega arith) in
+    ap orderNumber (order-is s at h)
+    ∙ of-chain (eqb (length s) (at + 1)) (marked s at 77 78) (marked s at 69 78) (marked s at 83 84) (marked s at 67 82) (fits s at 5) (fits s at 1)
+    (byteAt s (at + 2)) (wordAt s (at + 3)) .0
+    ∙ ap₂ (λ (x y : Bool). firstThat (when 11 (eqb (length s) (at + 1)) ∷ when 12 (marked s at 77 78)
+    ∷ when 10 (not (marked s at 69 78 || marked s at 83 84 || marked s at 67 82)) ∷ when 11 (cond (marked s at 69 78) x y) ∷ [])) long short
 
 pub not-end : (s : List ℕ) (at : ℕ) → at < length s → orderAt s at ≡ Order.End → ⊥
 not-end s at h e =
     let t : true ≡ false
     = sym (ap isEnd e) ∙ ap isEnd (order-is s at h)
-    ∙ end-chain (eqb (length s) (at + 1)) (marked s at 77 78) (marked s at 69 78) (marked s at 83 84) (marked s at 67 82) (fits s at 5) (fits s at 1)
-    (byteAt s (at + 2)) (wordAt s (at + 3)) in
+    ∙ of-chain (eqb (length s) (at + 1)) (marked s at 77 78) (marked s at 69 78) (marked s at 83 84) (marked s at 67 82) (fits s at 5) (fits s at 1)
+    (byteAt s (at + 2)) (wordAt s (at + 3)) .1 in
     let z : _≡_ {A = ℕ} 0 1 = cc in omega arith

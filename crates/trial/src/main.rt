@@ -1,5 +1,5 @@
-// Runs a script of calls on the compiled machine and prints what they answer: document 01's machine examples, which the gate compares with the
-// stored output. A line of the script is seven bytes, `X NN V` and a line end: a letter, a process number (or n), a value of one digit.
+// Runs a script of calls on the compiled machine and prints what they answer: document 01's machine examples, and its printed run with each step in a
+// slot of the executor. The gate compares that with the stored output. A line of the script is seven bytes, `X NN V` and a line end: a letter, a process number (or n), a value of one digit.
 ghost use Prim.Native.Nat.{_<_};
 use libc::STDOUT_FILENO;
 use rules::Answer;
@@ -88,6 +88,7 @@ fn call(m: Machine, letter: u8, p: u32, v: u32) -> Called {
         b's' => machine::step(m, p),
         b'c' => machine::crash(m, p),
         b'f' => alone::finish(m, p),
+        b'x' => executor::in_slot(m, p),
         _ => crowded(),
     }
 }

@@ -1,11 +1,14 @@
 -- `reader::tested` meets its contract: the tests that led to an answer are those of the definition.
 use Prim.Native.Nat.{ℕ, _+_, _*_}
-use mathlib.Core.Path.{ap, _∙_}
+use mathlib.Core.Bool.{true, false}
+use mathlib.Core.Path.{_≡_, ap, _∙_}
+use lib.Dec.{leb}
 use denote.Ref.{now}
 use borrow.Author.Tests.{le-leb, lt-leb}
 use borrow.Author.Needs.{needs}
-use Rattle.sets.specs.Sets.{within}
+use Rattle.sets.specs.Sets.{has, first, within}
 use Rattle.files.specs.Records.{fits}
+use Rattle.files.specs.ViewFile.{valuesFit}
 use Rattle.files.proofs.Tests.{told}
 use Rattle.reader.proofs.tested.Statement.{statement}
 use Rattle.reader.proofs.tested.Tie as tie
@@ -23,6 +26,12 @@ returns-3 : tie.Need-returns-3
 returns-3 c =
     let if2 = c .before .before in
     simp (le-leb _ _ (if2 .before .if1 .left), le-leb _ _ (if2 .if2 .left), told (c .before .has .ensures) (c .if3 .taken))
+
+-- the tests of the process, passed
+process-passed : (c : tie.Else3) → (leb 1 (c .before .before .before .before .before .args .p) ≡ true) × (leb (c .before .before .before .before .before .args .p) (c .before .before .before .before .before .args .n) ≡ true) × (has (c .before .before .before .before .before .args .own) (c .before .before .before .before .before .args .p) ≡ false)
+process-passed c =
+    let if2 = c .before .before in
+    (le-leb _ _ (if2 .before .if1 .left), le-leb _ _ (if2 .if2 .left), told (c .before .has .ensures) (c .if3 .left))
 
 first-requires : tie.Need-first-requires
 first-requires c κs = search needs
@@ -45,45 +54,29 @@ add-body-fits c = search needs
 body-fits-requires : tie.Need-body-fits-requires
 body-fits-requires c κs = search needs
 
+-- the answers of the last two tests, in the terms of the definition
+inside : (c : tie.After-within) → c .within .result ≡ within (c .before .before .before .before .before .before .before .args .w) (first (c .before .before .before .before .before .before .before .args .n))
+inside c = c .within .ensures ∙ ap (within (c .before .before .before .before .before .before .before .args .w)) (c .before .first .ensures)
+
+fit : (c : tie.After-body-fits) → c .body-fits .result ≡ valuesFit (now (c .before .before .before .before .before .before .before .before .before .before .args .s)) (c .before .before .before .before .before .before .before .before .before .before .args .at) (c .before .before .before .before .before .before .before .before .before .before .args .w)
+fit c = let a = c .before .before .before .before .before .before .before .before .before .before .args in c .body-fits .ensures ∙ ap (λ (k : ℕ). fits (now (a .s)) (a .at) (5 + 4 * k)) (c .before .size .ensures)
+
 returns-4 : tie.Need-returns-4
 returns-4 c =
-    let a = c .before .before .before .before .before .before .before .before .before .before .before .args in
     let if4 = c .before .before .before in
-    let if3 = if4 .before .before .before in
-    let if2 = if3 .before .before in
-    simp (
-      le-leb _ _ (if2 .before .if1 .left),
-      le-leb _ _ (if2 .if2 .left),
-      told (if3 .before .has .ensures) (if3 .if3 .left),
-      told (if4 .before .within .ensures ∙ ap (within (a .w)) (if4 .before .before .first .ensures)) (if4 .if4 .taken),
-      told (c .before .body-fits .ensures ∙ ap (λ (k : ℕ). fits (now (a .s)) (a .at) (5 + 4 * k)) (c .before .before .size .ensures)) (c .if5 .taken),
-    )
+    let q = process-passed (if4 .before .before .before) in
+    simp (q .0, q .1, q .2, told (inside (if4 .before)) (if4 .if4 .taken), told (fit (c .before)) (c .if5 .taken))
 
 returns-5 : tie.Need-returns-5
 returns-5 c =
-    let a = c .before .before .before .before .before .before .before .before .before .before .before .args in
     let if4 = c .before .before .before in
-    let if3 = if4 .before .before .before in
-    let if2 = if3 .before .before in
-    simp (
-      le-leb _ _ (if2 .before .if1 .left),
-      le-leb _ _ (if2 .if2 .left),
-      told (if3 .before .has .ensures) (if3 .if3 .left),
-      told (if4 .before .within .ensures ∙ ap (within (a .w)) (if4 .before .before .first .ensures)) (if4 .if4 .taken),
-      told (c .before .body-fits .ensures ∙ ap (λ (k : ℕ). fits (now (a .s)) (a .at) (5 + 4 * k)) (c .before .before .size .ensures)) (c .if5 .left),
-    )
+    let q = process-passed (if4 .before .before .before) in
+    simp (q .0, q .1, q .2, told (inside (if4 .before)) (if4 .if4 .taken), told (fit (c .before)) (c .if5 .left))
 
 returns-6 : tie.Need-returns-6
 returns-6 c =
-    let a = c .before .before .before .before .before .before .before .before .args in
-    let if3 = c .before .before .before in
-    let if2 = if3 .before .before in
-    simp (
-      le-leb _ _ (if2 .before .if1 .left),
-      le-leb _ _ (if2 .if2 .left),
-      told (if3 .before .has .ensures) (if3 .if3 .left),
-      told (c .before .within .ensures ∙ ap (within (a .w)) (c .before .before .first .ensures)) (c .if4 .left),
-    )
+    let q = process-passed (c .before .before .before) in
+    simp (q .0, q .1, q .2, told (inside (c .before)) (c .if4 .left))
 
 pub tested-spec : {M : Type 1} → statement M
 tested-spec =
