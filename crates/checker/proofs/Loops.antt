@@ -7,14 +7,15 @@ use mathlib.Core.List.{List, [], _∷_, _++_, map}
 use native.Mathlib.Omega.{arith}
 use lib.ListN.{getD}
 use Rattle.sets.specs.Sets.{has}
-use Rattle.files.specs.declared.Views.{Views}
-use Rattle.files.specs.Views.{owns, seenBy}
-use Rattle.files.specs.ViewFile.{joined}
+use Rattle.formats.specs.declared.Views.{Views}
+use Rattle.formats.specs.Views.{owns, seenBy}
+use Rattle.text.specs.Parts.{joined}
 use Rattle.findings.specs.declared.Finding.{Finding}
 use Rattle.findings.specs.declared.Finding.the-variants.{Nothing, LacksItself}
 use Rattle.findings.specs.declared.Found.{Found}
 use Rattle.findings.specs.Findings.{isFinding, found, only, view, viewOf, breaks, ofOne, ofPair, ofPairs, firstBreak, firstOf}
-use Rattle.findings.proofs.First.{joined-next, joined-none, break-here, no-breaks}
+use Rattle.text.proofs.Parts.{joined-next, joined-none}
+use Rattle.findings.proofs.First.{break-here, no-breaks}
 
 -- what is left above i
 abbrev pub left : (ℕ → List Found) → ℕ → List Found

@@ -4,14 +4,14 @@ ghost use Prim.Native.Nat.{_≤_};
 ghost use mathlib.Core.Bool.{not, _&&_};
 ghost use mathlib.Core.List.{_++_};
 ghost use Rattle.sets.specs.Sets.{has};
-ghost use Rattle.files.specs.ViewFile.{joined};
+ghost use Rattle.text.specs.Parts.{joined};
 ghost use Rattle.findings.specs.Findings.{isFinding, findingNumber, found, only, view, agree, breaks};
 ghost use Rattle.findings.specs.Findings.{ofAll, ofPairs, firstBreak, firstOf, checkOf};
 ghost use Rattle.findings.specs.Verdict.{verdictOf};
-use files::Views;
 use findings::FileVerdict;
 use findings::Finding;
 use findings::Found;
+use formats::Views;
 
 // There is a finding.
 fn is_finding(k: Finding) -> bool

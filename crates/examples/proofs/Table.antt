@@ -6,7 +6,7 @@ use Rattle.sets.specs.Sets.{has, plus, every, count, within, size}
 use Rattle.rules.specs.Examples.{table as machineTable, passes as runPasses, allPass as allRunsPass}
 use Rattle.rules.specs.Examples as Runs
 use Rattle.rules.proofs.Laws.Examples.{every-row-passes}
-use Rattle.files.specs.ViewFile.{joined}
+use Rattle.text.specs.Parts.{joined}
 use Rattle.findings.specs.Findings.{agree, inside, breaks, ofOne, ofPair, findings, checkOf}
 use Rattle.examples.specs.Table.{Row, runs, withPairs, withViews, allPass, p9, p10, EveryExample}
 

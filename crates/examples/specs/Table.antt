@@ -9,8 +9,8 @@ use lib.ListN.{getD, set}
 use Rattle.sets.specs.Sets.{plus}
 use Rattle.rules.specs.Examples.{Seen, _∶_, table as machineTable, passes as runPasses}
 use Rattle.rules.specs.Examples as Runs
-use Rattle.files.specs.declared.Views.{Views}
-use Rattle.files.specs.Views.{cell, noneOf}
+use Rattle.formats.specs.declared.Views.{Views}
+use Rattle.formats.specs.Views.{cell, noneOf}
 use Rattle.findings.specs.Findings.{findingNumber, checkOf}
 
 -- a view as it is written in document 01: a process and its pairs

@@ -12,9 +12,9 @@ use borrow.Author.Tests.{eq-eqb, eqb-true}
 use Rattle.sets.specs.Sets.{has}
 use Rattle.sets.specs.Immediate.{Inside}
 use Rattle.sets.proofs.Laws.{either, every-true, true-every, has-known}
-use Rattle.files.specs.declared.Views.{Views}
-use Rattle.files.specs.Views.{owns, seenBy, valueBy}
-use Rattle.files.specs.ViewFile.{joined}
+use Rattle.formats.specs.declared.Views.{Views}
+use Rattle.formats.specs.Views.{owns, seenBy, valueBy}
+use Rattle.text.specs.Parts.{joined}
 use Rattle.findings.specs.declared.Finding.{Finding}
 use Rattle.findings.specs.declared.Finding.the-variants.{LacksItself, Apart, Unlike, Disagree}
 use Rattle.findings.specs.declared.Found.{Found}

@@ -12,7 +12,7 @@ use borrow.Author.Tests.{eq-eqb, ne-eqb, eqb-true}
 use Rattle.sets.specs.Sets.{has, within}
 use Rattle.sets.proofs.Laws.{every-true, true-every, every-ext}
 use Rattle.sets.proofs.Bits.{has-and}
-use Rattle.files.specs.Views.{cell}
+use Rattle.formats.specs.Views.{cell}
 use Rattle.findings.specs.declared.Finding.{Finding}
 use Rattle.findings.specs.declared.Finding.the-variants.{Nothing, Apart, Unlike, Disagree}
 use Rattle.findings.specs.Findings.{only, View, view, sameAt, agree, insideAt, inside, facing, breaks, firstBreak}

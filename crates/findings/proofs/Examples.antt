@@ -1,8 +1,9 @@
 -- The examples of specs/Examples, computed.
 use mathlib.Core.Path.{refl}
 use Rattle.sets.specs.Sets.{has, plus, first, every, count, within, size}
-use Rattle.files.specs.Records.{markOf, markAt, headerOf, viewAt}
-use Rattle.files.specs.ViewFile.{joined, testedAt, valuesRead, readFrom, readOf}
+use Rattle.formats.specs.Records.{markOf, markAt, headerOf, viewAt}
+use Rattle.text.specs.Parts.{joined}
+use Rattle.formats.specs.ViewFile.{testedAt, valuesRead, readFrom, readOf}
 use Rattle.findings.specs.Findings.{agree, inside, breaks, ofOne, ofPair, findings, checkOf}
 use Rattle.findings.specs.Verdict.{verdictOf}
 use Rattle.findings.specs.Examples.{hold, ExamplesHold, P9PassesByNeighbours}

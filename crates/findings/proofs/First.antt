@@ -1,30 +1,16 @@
 -- The first of a list of findings, over lists that are put together from parts.
-use Prim.Native.Nat.{ℕ, zero, suc, _+_, _-_, _<_}
+use Prim.Native.Nat.{ℕ, zero, suc, _-_}
 use mathlib.Core.Bool.{Bool, true, false, _&&_, cond, true≢false, false≢true}
 use mathlib.Core.Path.{_≡_, refl, sym, ap, _∙_}
 use mathlib.Core.List.{List, [], _∷_, _++_, map}
-use native.Mathlib.Numerals.{add-one}
-use native.Mathlib.Omega.{arith}
-use Rattle.files.specs.declared.Views.{Views}
-use Rattle.files.specs.Views.{owns}
-use Rattle.files.specs.ViewFile.{joined}
+use Rattle.formats.specs.declared.Views.{Views}
+use Rattle.formats.specs.Views.{owns}
+use Rattle.text.specs.Parts.{joined}
 use Rattle.findings.specs.declared.Finding.{Finding}
 use Rattle.findings.specs.declared.Finding.the-variants.{LacksItself, Apart, Unlike, Disagree}
 use Rattle.findings.specs.declared.Found.{Found}
 use Rattle.findings.specs.Findings.{isFinding, found, only, View, viewOf, lacks, breaks, disagree, apart, unlike}
 use Rattle.findings.specs.Findings.{ofOne, ofPair, ofPairs, firstBreak, firstOf}
-
--- the first part, and what is left of the parts up to 32
-pub joined-next : {A : Type 0} (i : ℕ) (f : ℕ → List A) → i < 32 → joined (suc i) (32 - i) f ≡ f (i + 1) ++ joined (suc (i + 1)) (32 - (i + 1)) f
-unfolding joined
-joined-next {A} i f h =
-    let e : 32 - i ≡ suc (32 - (i + 1)) = omega arith in
-    ap (λ (k : ℕ). joined (suc i) k f) e ∙ ap (λ (a : ℕ). f a ++ joined (suc a) (32 - (i + 1)) f) (sym (add-one i))
-
-pub joined-none : {A : Type 0} (a k : ℕ) (f : ℕ → List A) → ((i : ℕ) → f i ≡ []) → joined a k f ≡ []
-unfolding joined
-joined-none a zero f h = refl
-joined-none a (suc k) f h = ap (λ l. l ++ joined (suc a) k f) (h a) ∙ joined-none (suc a) k f h
 
 -- every part of a list is a finding
 abbrev pub Real : List Found → Type 0

@@ -8,9 +8,9 @@ use native.Mathlib.Nat.{eq-or-lt-of-le}
 use native.Mathlib.Omega.{arith}
 use Rattle.sets.specs.Sets.{has}
 use Rattle.sets.proofs.Laws.{either, has-known, has-zero}
-use Rattle.files.specs.declared.Views.{Views}
-use Rattle.files.specs.Views.{owns, seenBy, noneOf}
-use Rattle.files.specs.ViewFile.{joined}
+use Rattle.formats.specs.declared.Views.{Views}
+use Rattle.formats.specs.Views.{owns, seenBy, noneOf}
+use Rattle.text.specs.Parts.{joined}
 use Rattle.findings.specs.declared.Finding.{Finding}
 use Rattle.findings.specs.declared.Finding.the-variants.{Nothing, LacksItself, Apart, Unlike, Disagree}
 use Rattle.findings.specs.declared.Found.{Found}

@@ -7,10 +7,10 @@ use mathlib.Core.Path.{_≡_, refl, sym, ap, _∙_}
 use native.Mathlib.Omega.{arith}
 use borrow.Author.Tests.{eq-eqb, ne-eqb, eqb-false}
 use Rattle.sets.proofs.Laws.{either}
-use Rattle.files.specs.declared.Views.{Views}
-use Rattle.files.specs.declared.ViewsRead.{ViewsRead}
-use Rattle.files.specs.Numbers.{numberOf, accepted}
-use Rattle.files.specs.ViewFile.{readOf}
+use Rattle.formats.specs.declared.Views.{Views}
+use Rattle.formats.specs.declared.ViewsRead.{ViewsRead}
+use Rattle.formats.specs.Numbers.{numberOf, accepted}
+use Rattle.formats.specs.ViewFile.{readOf}
 use Rattle.findings.specs.declared.Finding.{Finding}
 use Rattle.findings.specs.declared.Finding.the-variants.{Nothing, LacksItself, Apart, Unlike, Disagree}
 use Rattle.findings.specs.declared.Found.{Found}
@@ -18,7 +18,7 @@ use Rattle.findings.specs.declared.FileVerdict.{FileVerdict}
 use Rattle.findings.specs.Findings.{findingNumber, isFinding, findings, checkOf}
 use Rattle.findings.specs.Verdict.{judged, unread, verdictBy, verdictOf}
 use Rattle.findings.specs.Properties.{Obeys, RefusedFirst, ReadThenChecked, YesExactly}
-use Rattle.files.proofs.WholeFile.{read-place}
+use Rattle.formats.proofs.WholeFile.{read-place}
 use Rattle.findings.proofs.First.{none-first}
 use Rattle.findings.proofs.Accepts.{accepts-exactly}
 use Rattle.findings.proofs.FirstBreak.{real-findings, yes-is-no-finding}

@@ -5,10 +5,11 @@ use mathlib.Core.Path.{_≡_}
 use mathlib.Core.List.{List, [], _∷_, _++_}
 use lib.Dec.{eqb}
 use lib.ListN.{length}
-use Rattle.files.specs.declared.Views.{Views}
-use Rattle.files.specs.Records.{wordBytes}
-use Rattle.files.specs.ViewFile.{joined, readOf}
-use Rattle.files.specs.Examples.{MN, VW}
+use Rattle.formats.specs.declared.Views.{Views}
+use Rattle.formats.specs.Records.{wordBytes}
+use Rattle.text.specs.Parts.{joined}
+use Rattle.formats.specs.ViewFile.{readOf}
+use Rattle.formats.specs.Examples.{MN, VW}
 use Rattle.findings.specs.declared.FileVerdict.{FileVerdict}
 use Rattle.findings.specs.declared.Found.{Found}
 use Rattle.findings.specs.Findings.{ofPair, ofAll}

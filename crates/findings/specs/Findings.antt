@@ -6,9 +6,9 @@ use mathlib.Core.List.{List, [], _∷_, _++_, map}
 use lib.Dec.{eqb}
 use lib.ListN.{getD}
 use Rattle.sets.specs.Sets.{has, every}
-use Rattle.files.specs.declared.Views.{Views}
-use Rattle.files.specs.Views.{owns, seenBy, cell}
-use Rattle.files.specs.ViewFile.{joined}
+use Rattle.formats.specs.declared.Views.{Views}
+use Rattle.formats.specs.Views.{owns, seenBy, cell}
+use Rattle.text.specs.Parts.{joined}
 use Rattle.findings.specs.declared.Finding.{Finding}
 use Rattle.findings.specs.declared.Finding.the-variants.{Nothing, LacksItself, Apart, Unlike, Disagree}
 use Rattle.findings.specs.declared.Found.{Found}

@@ -7,10 +7,10 @@ use mathlib.Core.List.{List, []}
 use lib.ListN.{length}
 use Rattle.sets.specs.Sets.{has}
 use Rattle.sets.specs.Immediate.{Inside, Immediate}
-use Rattle.files.specs.declared.Views.{Views}
-use Rattle.files.specs.Numbers.{numberOf, accepted}
-use Rattle.files.specs.Views.{owns, seenBy, valueBy, noneOf}
-use Rattle.files.specs.ViewFile.{readOf}
+use Rattle.formats.specs.declared.Views.{Views}
+use Rattle.formats.specs.Numbers.{numberOf, accepted}
+use Rattle.formats.specs.Views.{owns, seenBy, valueBy, noneOf}
+use Rattle.formats.specs.ViewFile.{readOf}
 use Rattle.findings.specs.declared.Finding.{Finding}
 use Rattle.findings.specs.declared.Finding.the-variants.{Nothing, LacksItself, Apart, Unlike, Disagree}
 use Rattle.findings.specs.Findings.{found, isFinding, viewOf, disagree, apart, unlike, breaks, findings, checkOf}

@@ -3,9 +3,9 @@
 use Prim.Native.Nat.{ℕ}
 use mathlib.Core.Bool.{cond}
 use mathlib.Core.List.{List}
-use Rattle.files.specs.declared.ViewsRead.{ViewsRead}
-use Rattle.files.specs.Numbers.{numberOf, accepted}
-use Rattle.files.specs.ViewFile.{readOf}
+use Rattle.formats.specs.declared.ViewsRead.{ViewsRead}
+use Rattle.formats.specs.Numbers.{numberOf, accepted}
+use Rattle.formats.specs.ViewFile.{readOf}
 use Rattle.findings.specs.declared.Found.{Found}
 use Rattle.findings.specs.declared.FileVerdict.{FileVerdict}
 use Rattle.findings.specs.Findings.{findingNumber, checkOf}

@@ -2,12 +2,11 @@
 use Prim.Native.Nat.{ℕ, zero, suc, _+_, _-_, _*_, _≤_, _<_}
 use mathlib.Core.Bool.{Bool, true, false, cond}
 use mathlib.Core.Path.{_≡_, refl, sym, ap, ap₂, _∙_, subst}
-use mathlib.Core.List.{List, [], _∷_, _++_, append-assoc}
+use mathlib.Core.List.{List, [], _∷_, _++_}
 use native.Mathlib.Omega.{arith}
 use types.Run.{OneOf, miss}
 use denote.Enum.Declared.{tagOf}
-use lib.ListN.{length, getD, set, drop, length-set, length-append}
-use lib.Seq.{set-append-seam}
+use lib.ListN.{length, getD, set, length-append}
 use Rattle.sets.specs.Sets.{has, count, size, tick}
 use Rattle.sets.proofs.Laws.{count-le}
 use Rattle.rules.proofs.Stage.{the-type}
@@ -17,38 +16,12 @@ use Rattle.rules.specs.declared.Machine.{Machine}
 use Rattle.rules.specs.State.{cellIn, nobody, rowOf, stageOf}
 use Rattle.rules.specs.Shape.{Shaped, ShapedStage, shaped}
 use Rattle.rules.proofs.Laws.Shape.{shaped-record}
-use Rattle.files.specs.Records.{wordBytes}
-use Rattle.files.specs.ViewFile.{joined}
-use Rattle.files.proofs.Bytes.{joined-at}
-use Rattle.findings.proofs.First.{joined-next}
-use Rattle.orders.specs.Places.{put, memberBytes, recordBytes, stageBytes, partOf, recordLength, HasRow}
-
-pub put-append : (b : List ℕ) (at : ℕ) (x y : List ℕ) → put b at (x ++ y) ≡ put (put b at x) (at + length x) y
-unfolding put
-put-append b at [] y = let e : at ≡ at + 0 = omega arith in ap (λ (k : ℕ). put b k y) e
-put-append b at (a ∷ x) y =
-    let e : at + 1 + length x ≡ at + suc (length x) = omega arith in
-    put-append (set b at a) (at + 1) x y ∙ ap (λ (k : ℕ). put (put (set b at a) (at + 1) x) k y) e
-
-pub length-put : (b : List ℕ) (at : ℕ) (x : List ℕ) → length (put b at x) ≡ length b
-unfolding put
-length-put b at [] = refl
-length-put b at (a ∷ x) = length-put (set b at a) (at + 1) x ∙ length-set b at a
-
--- what is stored stands in place of what stood there, and all else stays
-put-seam : (a s x : List ℕ) (at : ℕ) → at ≡ length a → length x ≤ length s → put (a ++ s) at x ≡ a ++ (x ++ drop (length x) s)
-unfolding put
-put-seam a s [] at e h = refl
-put-seam a [] (b ∷ x) at e h = absurd (omega arith)
-put-seam a (c ∷ s) (b ∷ x) at e h =
-    let l : at + 1 ≡ length (a ++ b ∷ []) = omega (arith, length-append a (b ∷ [])) in
-    ap (λ (k : ℕ). put (set (a ++ c ∷ s) k b) (at + 1) x) e
-    ∙ ap (λ (t : List ℕ). put t (at + 1) x) (set-append-seam a c s b ∙ sym (append-assoc a (b ∷ []) s))
-    ∙ put-seam (a ++ b ∷ []) s x (at + 1) l (omega arith)
-    ∙ append-assoc a (b ∷ []) (x ++ drop (length x) s)
-
-pub put-over : (s x : List ℕ) → length x ≤ length s → put s 0 x ≡ x ++ drop (length x) s
-put-over s x h = put-seam [] s x 0 refl h
+use Rattle.formats.specs.Records.{wordBytes}
+use Rattle.text.specs.Parts.{joined}
+use Rattle.text.proofs.Parts.{joined-at, joined-next}
+use Rattle.text.specs.Stores.{put}
+use Rattle.orders.specs.Coded.Places.{memberBytes, recordBytes, stageBytes, partOf, recordLength, HasRow}
+use Rattle.text.proofs.Stores.{put-append, length-put}
 
 -- The parts f 1, f 2, .. f 32 stored from a place on: the first i of them stand, and the rest is left to store.
 pub record Left (f : ℕ → List ℕ) (b₀ : List ℕ) (at : ℕ) (b : List ℕ) (place i : ℕ) : Type 0 where

@@ -1,43 +1,30 @@
--- What the view writer answers and leaves, case by case.
+-- What the view writer answers and leaves, case by case, of the file as it stores it.
 use Prim.Native.Nat.{ℕ, _≤_, _<_}
-use mathlib.Core.Bool.{Bool, true, false, cond, true≢false}
-use mathlib.Core.Path.{_≡_, refl, sym, ap, ap₂, _∙_}
-use mathlib.Core.List.{List, _++_}
+use mathlib.Core.Bool.{true, false}
+use mathlib.Core.Path.{_≡_, refl, ap, _∙_}
+use mathlib.Core.List.{List}
 use native.Mathlib.Omega.{arith}
 use lib.Dec.{leb}
-use lib.ListN.{length, drop}
-use borrow.Author.Tests.{le-leb, lt-leb, leb-true, leb-false}
+use lib.ListN.{length}
+use borrow.Author.Tests.{le-leb, lt-leb}
+use Rattle.text.specs.Stores.{put}
+use Rattle.text.proofs.Stores.{put-over}
 use Rattle.rules.specs.declared.Machine.{Machine}
 use Rattle.rules.specs.Shape.{shaped}
-use Rattle.orders.specs.declared.Written.{Written}
-use Rattle.orders.specs.declared.WriteAnswer.the-variants.{Done, NotShaped, TooShort}
-use Rattle.orders.specs.Writes.{writeNumber, bytesOf, written, writeOf, bufferOf}
-use Rattle.orders.specs.Promises.{WriteNumbers, EveryWriteNumbered}
-use Rattle.orders.specs.Places.{put, machineBytes}
-use Rattle.orders.proofs.Places.{put-over}
-use Rattle.orders.proofs.Views.{bytes-stored}
-
--- an answer, and what it leaves of a buffer
-abbrev pub Answers : Machine → List ℕ → Written → List ℕ → Type 0
-Answers m b r b′ = (r ≡ writeOf m (length b)) × (b′ ≡ bufferOf m b)
+use Rattle.replays.specs.declared.WriteAnswer.the-variants.{Done, NotShaped, TooShort}
+use Rattle.replays.specs.Writes.{bytesOf, written}
+use Rattle.replays.proofs.Writes.{Answers, by-tests}
+use Rattle.orders.specs.Coded.Places.{machineBytes}
+use Rattle.orders.proofs.Stored.{bytes-stored}
 
 module _ (m : Machine) (b : List ℕ) where
-  by-tests : (t u : Bool) → shaped m ≡ t → leb (length (bytesOf m)) (length b) ≡ u
-      → Answers m b (cond t (cond u (written Done (length (bytesOf m))) (written TooShort 0)) (written NotShaped 0))
-      (cond t (cond u (bytesOf m ++ drop (length (bytesOf m)) b) b) b)
-  unfolding writeOf bufferOf
-  by-tests t u e f = (
-    sym (ap₂ (λ (x y : Bool). cond x (cond y (written Done (length (bytesOf m))) (written TooShort 0)) (written NotShaped 0)) e f),
-    sym (ap₂ (λ (x y : Bool). cond x (cond y (bytesOf m ++ drop (length (bytesOf m)) b) b) b) e f),
-  )
-
   -- 1
   pub not-shaped : shaped m ≡ false → Answers m b (written NotShaped 0) b
-  not-shaped e = by-tests false (leb (length (bytesOf m)) (length b)) e refl
+  not-shaped e = by-tests m b false (leb (length (bytesOf m)) (length b)) e refl
 
   -- 17
   pub too-short : shaped m ≡ true → length b < length (machineBytes m) → Answers m b (written TooShort 0) b
-  too-short e h = by-tests true false e (lt-leb (length (bytesOf m)) (length b) (omega (arith, ap length (bytes-stored m))))
+  too-short e h = by-tests m b true false e (lt-leb (length (bytesOf m)) (length b) (omega (arith, ap length (bytes-stored m))))
 
   -- 0
   pub done : shaped m ≡ true → length (machineBytes m) ≤ length b → (k : ℕ) (b′ : List ℕ) → k ≡ length (machineBytes m) → b′ ≡ put b 0 (machineBytes m)
@@ -45,46 +32,7 @@ module _ (m : Machine) (b : List ℕ) where
   done e h k b′ n p =
       let s = ap length (bytes-stored m) in
       let fits : length (bytesOf m) ≤ length b = omega (arith, s) in
-      let t = by-tests true true e (le-leb (length (bytesOf m)) (length b) fits) in (
+      let t = by-tests m b true true e (le-leb (length (bytesOf m)) (length b) fits) in (
         ap (written Done) (n ∙ s) ∙ t .0,
         p ∙ ap (put b 0) (bytes-stored m) ∙ put-over b (bytesOf m) fits ∙ t .1,
       )
-
--- Each number exactly when it applies, by the two tests.
-numbered : (m : Machine) (b : List ℕ) (t u : Bool) → shaped m ≡ t → leb (length (bytesOf m)) (length b) ≡ u → WriteNumbers m b
-numbered m b false u e f =
-    let a = by-tests m b false u e f in
-    let w : writeNumber (writeOf m (length b) .answer) ≡ 1 = ap (λ (r : Written). writeNumber (r .answer)) (sym (a .0)) in
-    let no : shaped m ≡ true → ⊥ = λ s. true≢false (sym s ∙ e) in
-    record {
-      one = (λ h. no, λ h. w);
-      seventeen = (λ h. absurd (omega arith), λ h. absurd (no (h .0)));
-      none = (λ h. absurd (omega arith), λ h. absurd (no (h .0)));
-      nothing = λ h. (ap (λ (r : Written). r .bytes) (sym (a .0)), sym (a .1));
-      written = λ h. absurd (omega arith);
-    }
-numbered m b true false e f =
-    let a = by-tests m b true false e f in
-    let w : writeNumber (writeOf m (length b) .answer) ≡ 17 = ap (λ (r : Written). writeNumber (r .answer)) (sym (a .0)) in
-    let short : length b < length (bytesOf m) = leb-false (length (bytesOf m)) (length b) f in
-    record {
-      one = (λ h. absurd (omega arith), λ h. absurd (h e));
-      seventeen = (λ h. (e, short), λ h. w);
-      none = (λ h. absurd (omega arith), λ h. absurd (omega (arith, h .1)));
-      nothing = λ h. (ap (λ (r : Written). r .bytes) (sym (a .0)), sym (a .1));
-      written = λ h. absurd (omega arith);
-    }
-numbered m b true true e f =
-    let a = by-tests m b true true e f in
-    let w : writeNumber (writeOf m (length b) .answer) ≡ 0 = ap (λ (r : Written). writeNumber (r .answer)) (sym (a .0)) in
-    let long : length (bytesOf m) ≤ length b = leb-true (length (bytesOf m)) (length b) f in
-    record {
-      one = (λ h. absurd (omega arith), λ h. absurd (h e));
-      seventeen = (λ h. absurd (omega arith), λ h. absurd (omega (arith, h .1)));
-      none = (λ h. (e, long), λ h. w);
-      nothing = λ h. absurd (h w);
-      written = λ h. (ap (λ (r : Written). r .bytes) (sym (a .0)), sym (a .1));
-    }
-
-pub every-write-numbered : EveryWriteNumbered
-every-write-numbered m b = numbered m b (shaped m) (leb (length (bytesOf m)) (length b)) refl refl

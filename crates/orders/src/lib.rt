@@ -1,7 +1,11 @@
 // The replay of an order file and the writer of a view file (document 01, "Files"), over the machine's calls.
-use files::FileAnswer;
-use files::Header;
-use files::Order;
+use formats::FileAnswer;
+use formats::Header;
+use formats::Order;
+use replays::Counts;
+use replays::Replayed;
+use replays::WriteAnswer;
+use replays::Written;
 use rules::Answer;
 use rules::Machine;
 use rules::Stage;
@@ -13,41 +17,13 @@ ghost use lib.ListN.{length};
 ghost use Rattle.sets.specs.Sets.{size};
 ghost use Rattle.rules.specs.Shape.{shaped};
 ghost use Rattle.rules.specs.Calls.{numberOf, fresh};
-ghost use Rattle.files.specs.Records.{wordBytes};
-ghost use Rattle.files.specs.ViewFile.{joined};
-ghost use Rattle.orders.specs.Replays.{replayed, ordersFrom, replayOf};
-ghost use Rattle.orders.specs.Turns.{none, counted, ends, CountsFit};
-ghost use Rattle.orders.specs.Writes.{writeOf, bufferOf};
-ghost use Rattle.orders.specs.Places.{HasRow, recordLength, put, memberBytes, recordBytes, stageBytes, machineBytes};
-
-// What a replay answers.
-pub struct Replayed {
-    pub answer: FileAnswer,
-    pub place: usize,
-    pub taken: u32,
-    pub accesses: u32,
-    pub refused: u32,
-    pub machine: Machine,
-}
-
-// The counts of a replay under way.
-pub struct Counts {
-    pub taken: u32,
-    pub accesses: u32,
-    pub refused: u32,
-}
-
-// What the view writer answers; `writeNumber` of specs/Writes gives document 01's number for each.
-pub enum WriteAnswer {
-    Done,
-    NotShaped,
-    TooShort,
-}
-
-pub struct Written {
-    pub answer: WriteAnswer,
-    pub bytes: usize,
-}
+ghost use Rattle.formats.specs.Records.{wordBytes};
+ghost use Rattle.text.specs.Parts.{joined};
+ghost use Rattle.replays.specs.Replays.{replayed, ordersFrom, replayOf};
+ghost use Rattle.replays.specs.Coded.Turns.{none, counted, ends, CountsFit};
+ghost use Rattle.replays.specs.Writes.{writeOf, bufferOf};
+ghost use Rattle.orders.specs.Coded.Places.{HasRow, recordLength, memberBytes, recordBytes, stageBytes, machineBytes};
+ghost use Rattle.text.specs.Stores.{put};
 
 // The machine has done what was asked.
 fn accepted(a: Answer) -> bool

@@ -2,13 +2,13 @@
 ghost use mathlib.Core.Path.{_≡_};
 ghost use Prim.Native.Nat.{_+_, _≤_};
 ghost use lib.ListN.{length};
-ghost use Rattle.files.specs.Views.{noneOf};
-ghost use Rattle.files.specs.ViewFile.{testedView, testedAt, valuesRead, withView, refusedAt, readFrom, readOf};
-use files::FileAnswer;
-use files::Header;
-use files::ViewRecord;
-use files::Views;
-use files::ViewsRead;
+ghost use Rattle.formats.specs.Views.{noneOf};
+ghost use Rattle.formats.specs.ViewFile.{testedView, testedAt, valuesRead, withView, refusedAt, readFrom, readOf};
+use formats::FileAnswer;
+use formats::Header;
+use formats::ViewRecord;
+use formats::Views;
+use formats::ViewsRead;
 
 // A `VW` whose fixed bytes are there: 14, 15, 16, then 11 for its values, or the view's process and set.
 fn tested(s: &[u8], at: usize, n: u32, own: u32, p: u32, w: u32) -> ViewRecord

@@ -6,9 +6,9 @@ use native.Mathlib.Omega.{arith}
 use native.Mathlib.Numerals.{add-one}
 use lib.ListN.{length, drop, getD, drop-of-length-le}
 use lib.Seq.{drop-cons}
-use Rattle.report.specs.Lines.{field, fields}
-use Rattle.report.specs.Stores.{Room, Stored}
-use Rattle.report.proofs.Stores.{Left, left-start, left-room, left-next, left-none, room-first, room-as}
+use Rattle.output.specs.Lines.{field, fields}
+use Rattle.text.specs.Stores.{Room, Stored}
+use Rattle.text.proofs.Stores.{Left, left-start, left-room, left-next, left-none, room-first, room-as}
 
 pub record Fields (b₀ : List ℕ) (at : ℕ) (ns b : List ℕ) (place i : ℕ) : Type 0 where
   pub most : i ≤ length ns

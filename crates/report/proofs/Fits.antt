@@ -1,4 +1,4 @@
--- How long the lines are, and what the texts are by the length of the input.
+-- How long the lines are.
 use Prim.Native.Nat.{ℕ, zero, suc, _+_, _-_, _*_, _^_, _≤_, _<_}
 use mathlib.Core.Bool.{Bool, true, false, cond}
 use mathlib.Core.Path.{_≡_, sym, ap, _∙_}
@@ -6,7 +6,6 @@ use mathlib.Core.List.{List, [], _∷_, _++_}
 use native.Mathlib.Nat.{min-eq-left}
 use native.Mathlib.Omega.{arith}
 use lib.ListN.{length, getD, take, length-append, length-take}
-use borrow.Author.Tests.{le-leb, lt-leb}
 use Rattle.sets.specs.Sets.{has}
 use Rattle.sets.proofs.Laws.{count-le}
 use Rattle.rules.specs.declared.Machine.{Machine}
@@ -14,19 +13,18 @@ use Rattle.rules.specs.declared.Sight.{Sight}
 use Rattle.rules.specs.declared.Standing.{Standing}
 use Rattle.rules.specs.declared.Standing.the-variants.{Absent, Running, Finished, Crashed}
 use Rattle.rules.specs.State.{stageOf}
-use Rattle.files.specs.declared.FileAnswer.{FileAnswer}
-use Rattle.files.specs.declared.FileAnswer.the-variants.{Whole, OutOfRange, NotHeader, OtherMark, MarkCut, BodyCut, HeaderAgain}
-use Rattle.files.specs.declared.FileAnswer.the-variants.{BudgetSpent, NoProcess, SecondView, NamesAbove}
-use Rattle.files.specs.Numbers.{numberOf}
-use Rattle.orders.specs.declared.Replayed.{Replayed}
-use Rattle.orders.specs.Replays.{replayOf}
+use Rattle.formats.specs.declared.FileAnswer.{FileAnswer}
+use Rattle.formats.specs.declared.FileAnswer.the-variants.{Whole, OutOfRange, NotHeader, OtherMark, MarkCut, BodyCut, HeaderAgain}
+use Rattle.formats.specs.declared.FileAnswer.the-variants.{BudgetSpent, NoProcess, SecondView, NamesAbove}
+use Rattle.formats.specs.Numbers.{numberOf}
+use Rattle.replays.specs.declared.Replayed.{Replayed}
 use Rattle.findings.specs.declared.FileVerdict.{FileVerdict}
-use Rattle.findings.specs.Verdict.{verdictOf}
-use Rattle.report.specs.Lines.{decimal, field, fields, line, tooLong, verdict, verdictLine, verdictText, run, p, participants, stageWord, comma, pair}
-use Rattle.report.specs.Lines.{pairsFrom, view, sightLine, runLine, takesPart, partaking, lastLine, replayLines, replayText}
-use Rattle.report.specs.Stores.{Room, Stored, over}
-use Rattle.report.proofs.Digits.{two-digits, ten-digits, twenty-digits}
-use Rattle.report.proofs.Stores.{stored-length, stored-over}
+use Rattle.text.specs.Decimal.{decimal}
+use Rattle.output.specs.Lines.{field, fields, line, verdict, verdictLine, run, p, participants, stageWord, comma, pair}
+use Rattle.output.specs.Lines.{pairsFrom, view, sightLine, runLine, takesPart, partaking, lastLine}
+use Rattle.text.specs.Stores.{Room, Stored, over}
+use Rattle.text.proofs.Decimal.{two-digits, ten-digits, twenty-digits}
+use Rattle.text.proofs.Stores.{stored-length, stored-over}
 
 -- a line by the most that each of its parts can have
 pub data Short : List (List ℕ) → ℕ → Type 0 where
@@ -155,15 +153,6 @@ last-length m h =
     let k : partaking m < 100 = omega (arith, count-le (λ i. takesPart (stageOf m i)) (m .n)) in
     words-length participants (partaking m ∷ []) word (next (small-field (partaking m) k) none)
 
--- the text of an input that is taken, and of one that is not
-pub verdict-short : (s : List ℕ) → length s ≤ 65535 → verdictText s ≡ verdictLine (verdictOf s)
-unfolding verdictText
-verdict-short s h = ap (λ (t : Bool). cond t (verdictLine (verdictOf s)) tooLong) (le-leb (length s) 65535 h)
-
-pub verdict-long : (s : List ℕ) → 65535 < length s → verdictText s ≡ tooLong
-unfolding verdictText
-verdict-long s h = ap (λ (t : Bool). cond t (verdictLine (verdictOf s)) tooLong) (lt-leb (length s) 65535 h)
-
 -- a text that stands from the start of a buffer
 pub whole : {b x text b′ : List ℕ} {r : ℕ} → text ≡ x → Room b 0 x → Stored b 0 x b′ r → ((r ≡ length text) × (r ≤ length b′)) × (b′ ≡ over text b)
 whole {b} {x} {text} {b′} {r} e h s =
@@ -173,11 +162,3 @@ whole {b} {x} {text} {b′} {r} e h s =
 -- so much of it as a part
 pub part-length : (r : ℕ) (b : List ℕ) → r ≤ length b → r ≡ length (take r b)
 part-length r b h = sym (length-take r b ∙ min-eq-left h)
-
-pub replay-short : (s : List ℕ) → length s ≤ 65535 → replayText s ≡ replayLines (replayOf s 65535)
-unfolding replayText
-replay-short s h = ap (λ (t : Bool). cond t (replayLines (replayOf s 65535)) tooLong) (le-leb (length s) 65535 h)
-
-pub replay-long : (s : List ℕ) → 65535 < length s → replayText s ≡ tooLong
-unfolding replayText
-replay-long s h = ap (λ (t : Bool). cond t (replayLines (replayOf s 65535)) tooLong) (lt-leb (length s) 65535 h)

@@ -1,9 +1,6 @@
--- Laws of stored bytes and of printed numbers, that each text fits its buffer, and examples.
-pub mod Stores
-pub mod Digits
+-- Laws of the stored lines, and that each text fits its buffer.
 pub mod Fits
 pub mod Fields
 pub mod Pairs
 pub mod Processes
 pub mod Determined
-pub mod Examples

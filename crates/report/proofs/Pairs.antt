@@ -6,9 +6,9 @@ use mathlib.Core.List.{List, _++_}
 use native.Mathlib.Omega.{arith}
 use lib.ListN.{getD}
 use Rattle.sets.specs.Sets.{has}
-use Rattle.report.specs.Lines.{pair, pairsFrom}
-use Rattle.report.specs.Stores.{Room, Stored}
-use Rattle.report.proofs.Stores.{Left, left-start, left-room, left-next, left-as, left-none, room-first, room-as}
+use Rattle.output.specs.Lines.{pair, pairsFrom}
+use Rattle.text.specs.Stores.{Room, Stored}
+use Rattle.text.proofs.Stores.{Left, left-start, left-room, left-next, left-as, left-none, room-first, room-as}
 
 pub record Pairs (b₀ : List ℕ) (at w : ℕ) (values b : List ℕ) (place : ℕ) (later : Bool) (i : ℕ) : Type 0 where
   pub most : i ≤ 32

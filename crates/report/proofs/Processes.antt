@@ -14,11 +14,11 @@ use Rattle.rules.specs.State.{nobody, stageOf}
 use Rattle.rules.specs.Shape.{Shaped}
 use Rattle.rules.specs.Calls.{looked, unseen, lookOf}
 use Rattle.rules.proofs.Laws.Shape.{record-shaped}
-use Rattle.files.specs.ViewFile.{joined}
-use Rattle.files.proofs.Bytes.{joined-at}
-use Rattle.report.specs.Lines.{sightLine, processLine, takesPart, partaking}
-use Rattle.report.specs.Stores.{Room, Stored}
-use Rattle.report.proofs.Stores.{then, stored-none, stored-as, stored-length}
+use Rattle.text.specs.Parts.{joined}
+use Rattle.text.proofs.Parts.{joined-at}
+use Rattle.output.specs.Lines.{sightLine, processLine, takesPart, partaking}
+use Rattle.text.specs.Stores.{Room, Stored}
+use Rattle.text.proofs.Stores.{then, stored-none, stored-as, stored-length}
 
 -- a look at a process of a well shaped machine shows what its record says
 pub looks : (m : Machine) (i : ℕ) → Shaped m → 1 ≤ i → i ≤ m .n → lookOf m i ≡ looked m (stageOf m i)

@@ -8,7 +8,7 @@ use denote.Ref.{now}
 use borrow.Author.Needs.{needs}
 use Rattle.sets.specs.Sets.{has, every}
 use Rattle.findings.specs.Findings.{agree, view, sameAt}
-use Rattle.files.proofs.Tests.{told}
+use Rattle.formats.proofs.Tests.{told}
 use Rattle.checker.proofs.Every.{every-more, every-fails}
 use Rattle.findings.proofs.Agreement.{not-both, same-value, other-value}
 use Rattle.checker.proofs.agree.Statement.{statement}

@@ -2,10 +2,10 @@
 use mathlib.Core.Path.{_≡_, sym, ap, _∙_}
 use mathlib.Core.Bool.{true, false}
 use borrow.Author.Needs.{needs}
-use Rattle.files.specs.ViewFile.{joined}
+use Rattle.text.specs.Parts.{joined}
 use Rattle.findings.specs.declared.Found.{Found}
 use Rattle.findings.specs.Findings.{isFinding, ofOne, ofAll, ofPairs, findings, firstOf, checkOf}
-use Rattle.files.proofs.Tests.{told}
+use Rattle.formats.proofs.Tests.{told}
 use Rattle.findings.proofs.First.{real-joined, real-ofOne, first-here, first-later}
 use Rattle.checker.proofs.check.Statement.{statement}
 use Rattle.checker.proofs.check.Tie as tie

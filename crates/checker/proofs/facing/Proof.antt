@@ -1,6 +1,6 @@
 -- `checker::facing` meets its contract.
 use borrow.Author.Needs.{needs}
-use Rattle.files.proofs.Tests.{told}
+use Rattle.formats.proofs.Tests.{told}
 use Rattle.checker.proofs.facing.Statement.{statement}
 use Rattle.checker.proofs.facing.Tie as tie
 

@@ -3,9 +3,9 @@ use Prim.Native.Nat.{suc, _-_, _≤_}
 use mathlib.Core.Path.{_≡_, refl, sym, _∙_}
 use native.Mathlib.Omega.{arith}
 use borrow.Author.Needs.{needs}
-use Rattle.files.specs.ViewFile.{joined}
+use Rattle.text.specs.Parts.{joined}
 use Rattle.findings.specs.Findings.{ofOne, ofAll, firstOf}
-use Rattle.files.proofs.Tests.{told}
+use Rattle.formats.proofs.Tests.{told}
 use Rattle.checker.proofs.Loops.{one-here, one-later, none-left}
 use Rattle.checker.proofs.first_alone.Statement.{statement}
 use Rattle.checker.proofs.first_alone.Tie as tie

@@ -4,10 +4,10 @@ use mathlib.Core.Bool.{true, false}
 use mathlib.Core.Path.{_≡_, refl, sym, ap, _∙_}
 use native.Mathlib.Omega.{arith}
 use borrow.Author.Needs.{needs}
-use Rattle.files.specs.ViewFile.{joined}
+use Rattle.text.specs.Parts.{joined}
 use Rattle.findings.specs.declared.Found.{Found}
 use Rattle.findings.specs.Findings.{isFinding, ofPairs, firstOf}
-use Rattle.files.proofs.Tests.{told}
+use Rattle.formats.proofs.Tests.{told}
 use Rattle.findings.proofs.First.{real-ofPairs, first-here, first-later}
 use Rattle.checker.proofs.Loops.{left, next-of, none-left}
 use Rattle.checker.proofs.first_pair.Statement.{statement}

@@ -5,9 +5,9 @@ use mathlib.Core.Bool.{true}
 use native.Mathlib.Omega.{arith}
 use borrow.Author.Tests.{not-true, not-false}
 use borrow.Author.Needs.{needs}
-use Rattle.files.specs.Views.{owns}
+use Rattle.formats.specs.Views.{owns}
 use Rattle.findings.specs.Findings.{ofPair, ofPairs, firstOf}
-use Rattle.files.proofs.Tests.{told}
+use Rattle.formats.proofs.Tests.{told}
 use Rattle.checker.proofs.Loops.{left, pair-here, pair-later, pair-skipped, no-pairs, none-left}
 use Rattle.checker.proofs.first_with.Statement.{statement}
 use Rattle.checker.proofs.first_with.Tie as tie

@@ -4,7 +4,7 @@ use mathlib.Core.Bool.{true, false}
 use denote.Ref.{now}
 use borrow.Author.Needs.{needs}
 use Rattle.findings.specs.Findings.{view, agree, firstBreak}
-use Rattle.files.proofs.Tests.{told}
+use Rattle.formats.proofs.Tests.{told}
 use Rattle.findings.proofs.Agreement.{nestings-of, breaks-agreeing, breaks-disagreeing}
 use Rattle.checker.proofs.judge.Statement.{statement}
 use Rattle.checker.proofs.judge.Tie as tie

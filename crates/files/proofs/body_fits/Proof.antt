@@ -6,7 +6,7 @@ use lib.ListN.{length}
 use denote.Ref.{now}
 use borrow.Author.Tests.{lt-leb}
 use borrow.Author.Needs.{needs}
-use Rattle.files.proofs.Tests.{leb-same}
+use Rattle.formats.proofs.Tests.{leb-same}
 use Rattle.files.proofs.body_fits.Statement.{statement}
 use Rattle.files.proofs.body_fits.Tie as tie
 

@@ -2,7 +2,7 @@
 use native.Mathlib.Omega.{arith}
 use denote.Ref.{now}
 use borrow.Author.Needs.{needs}
-use Rattle.files.proofs.Tests.{told, room}
+use Rattle.formats.proofs.Tests.{told, room}
 use Rattle.files.proofs.enter_at.Statement.{statement}
 use Rattle.files.proofs.enter_at.Tie as tie
 

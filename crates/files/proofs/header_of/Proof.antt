@@ -6,12 +6,12 @@ use types.Run.{OneOf, miss}
 use denote.Enum.Declared.{tagOf}
 use denote.Ref.{now}
 use borrow.Author.Needs.{needs}
-use Rattle.files.specs.declared.Mark.{Mark}
-use Rattle.files.specs.declared.Mark.the-variants.{End, Cut, Header, Enter, Step, Crash, View, Other}
-use Rattle.files.specs.declared.FileAnswer.the-variants.{NotHeader}
-use Rattle.files.specs.declared.Header.the-variants.{Fault}
-use Rattle.files.specs.Records.{headerBy, headerOf}
-use Rattle.files.proofs.Mark.{the-type}
+use Rattle.formats.specs.declared.Mark.{Mark}
+use Rattle.formats.specs.declared.Mark.the-variants.{End, Cut, Header, Enter, Step, Crash, View, Other}
+use Rattle.formats.specs.declared.FileAnswer.the-variants.{NotHeader}
+use Rattle.formats.specs.declared.Header.the-variants.{Fault}
+use Rattle.formats.specs.Records.{headerBy, headerOf}
+use Rattle.formats.proofs.Mark.{the-type}
 use Rattle.files.proofs.header_of.Statement.{statement}
 use Rattle.files.proofs.header_of.Tie as tie
 

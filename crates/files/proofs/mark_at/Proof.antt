@@ -2,7 +2,7 @@
 use mathlib.Core.Path.{_∙_, ap₂}
 use borrow.Author.Tests.{le-leb, lt-leb, eq-eqb, ne-eqb}
 use borrow.Author.Needs.{needs}
-use Rattle.files.specs.Records.{markOf, markAt}
+use Rattle.formats.specs.Records.{markOf, markAt}
 use Rattle.files.proofs.mark_at.Statement.{statement}
 use Rattle.files.proofs.mark_at.Tie as tie
 

@@ -3,9 +3,9 @@ use Prim.Native.Nat.{ℕ}
 use mathlib.Core.Bool.{cond}
 use mathlib.Core.Path.{_≡_}
 use borrow.Author.Needs.{needs}
-use Rattle.files.specs.declared.Mark.{Mark}
-use Rattle.files.specs.Records.{isMark, markOf}
-use Rattle.files.proofs.Tests.{told}
+use Rattle.formats.specs.declared.Mark.{Mark}
+use Rattle.formats.specs.Records.{isMark, markOf}
+use Rattle.formats.proofs.Tests.{told}
 use Rattle.files.proofs.mark_of.Statement.{statement}
 use Rattle.files.proofs.mark_of.Tie as tie
 

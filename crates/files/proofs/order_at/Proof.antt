@@ -2,8 +2,8 @@
 use mathlib.Core.Path.{_≡_, sym, ap, _∙_}
 use denote.Ref.{now}
 use borrow.Author.Needs.{needs}
-use Rattle.files.specs.declared.Mark.{Mark}
-use Rattle.files.specs.Records.{orderBy, orderAt}
+use Rattle.formats.specs.declared.Mark.{Mark}
+use Rattle.formats.specs.Records.{orderBy, orderAt}
 use Rattle.files.proofs.order_at.Statement.{statement}
 use Rattle.files.proofs.order_at.Tie as tie
 

@@ -1,5 +1,5 @@
 -- `orders::counted` meets its contract: each arm is the definition at what the machine answered.
-use Rattle.files.proofs.Tests.{told}
+use Rattle.formats.proofs.Tests.{told}
 use borrow.Author.Needs.{needs}
 use Rattle.orders.proofs.counted.Statement.{statement}
 use Rattle.orders.proofs.counted.Tie as tie

@@ -5,8 +5,8 @@ use native.Mathlib.Omega.{arith}
 use lib.ListN.{length, getD}
 use borrow.Author.Needs.{needs}
 use Rattle.rules.specs.State.{nobody}
-use Rattle.files.specs.ViewFile.{joined}
-use Rattle.orders.specs.Places.{partOf, machineBytes}
+use Rattle.text.specs.Parts.{joined}
+use Rattle.orders.specs.Coded.Places.{partOf, machineBytes}
 use Rattle.orders.proofs.Places.{record-most, part-length, length-next, length-none}
 use Rattle.orders.proofs.file_len.Statement.{statement}
 use Rattle.orders.proofs.file_len.Tie as tie

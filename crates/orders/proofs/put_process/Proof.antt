@@ -4,7 +4,8 @@ use mathlib.Core.Path.{sym, ap, _∙_, subst}
 use denote.Ref.{now}
 use native.Mathlib.Omega.{arith}
 use Rattle.rules.specs.declared.Stage.{Stage}
-use Rattle.orders.specs.Places.{HasRow, recordLength, put, stageBytes}
+use Rattle.orders.specs.Coded.Places.{HasRow, recordLength, stageBytes}
+use Rattle.text.specs.Stores.{put}
 use Rattle.orders.proofs.Places.{no-record}
 use borrow.Author.Needs.{needs}
 use Rattle.orders.proofs.put_process.Statement.{statement}

@@ -7,9 +7,10 @@ use lib.ListN.{length, getD}
 use denote.Ref.{now}
 use borrow.Author.Needs.{needs}
 use Rattle.sets.specs.Sets.{has, size}
-use Rattle.files.specs.Records.{wordBytes}
-use Rattle.files.proofs.Tests.{told}
-use Rattle.orders.specs.Places.{put, memberBytes}
+use Rattle.formats.specs.Records.{wordBytes}
+use Rattle.formats.proofs.Tests.{told}
+use Rattle.text.specs.Stores.{put}
+use Rattle.orders.specs.Coded.Places.{memberBytes}
 use Rattle.orders.proofs.Places.{Left, left-start, left-fits, left-next, left-none, values-length, member-in, member-out}
 use Rattle.orders.proofs.put_values.Statement.{statement}
 use Rattle.orders.proofs.put_values.Tie as tie

@@ -7,9 +7,11 @@ use lib.ListN.{length, set, length-set}
 use denote.Ref.{now}
 use borrow.Author.Needs.{needs}
 use Rattle.rules.proofs.Laws.Shape.{shaped-record}
-use Rattle.files.specs.ViewFile.{joined}
-use Rattle.orders.specs.Places.{put, partOf, machineBytes}
-use Rattle.orders.proofs.Places.{Left, left-start, left-fits, left-next, left-none, part-at, part-length, three-stored, put-append, lands}
+use Rattle.text.specs.Parts.{joined}
+use Rattle.text.specs.Stores.{put}
+use Rattle.orders.specs.Coded.Places.{partOf, machineBytes}
+use Rattle.orders.proofs.Places.{Left, left-start, left-fits, left-next, left-none, part-at, part-length, three-stored, lands}
+use Rattle.text.proofs.Stores.{put-append}
 use Rattle.orders.proofs.put_views.Statement.{statement}
 use Rattle.orders.proofs.put_views.Tie as tie
 

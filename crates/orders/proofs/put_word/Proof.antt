@@ -4,7 +4,7 @@ use mathlib.Core.Path.{_≡_, ap₂}
 use native.Mathlib.Omega.{arith}
 use lib.ListN.{set, length-set}
 use denote.Ref.{now}
-use Rattle.orders.specs.Places.{put}
+use Rattle.text.specs.Stores.{put}
 use borrow.Author.Needs.{needs}
 use Rattle.orders.proofs.put_word.Statement.{statement}
 use Rattle.orders.proofs.put_word.Tie as tie

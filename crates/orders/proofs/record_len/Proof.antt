@@ -2,7 +2,7 @@
 use Prim.Native.Nat.{ℕ, _+_, _*_}
 use mathlib.Core.Path.{_∙_, sym, ap}
 use mathlib.Core.List.{[]}
-use Rattle.orders.specs.Places.{recordLength}
+use Rattle.orders.specs.Coded.Places.{recordLength}
 use Rattle.orders.proofs.Places.{unfinished}
 use borrow.Author.Needs.{needs}
 use Rattle.orders.proofs.record_len.Statement.{statement}

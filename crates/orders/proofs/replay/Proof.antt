@@ -2,9 +2,9 @@
 use mathlib.Core.Path.{sym, ap, ap₂, _∙_}
 use denote.Ref.{now}
 use borrow.Author.Needs.{needs}
-use Rattle.files.proofs.Reading.{opened}
-use Rattle.orders.specs.Replays.{replayBy, replayOf}
-use Rattle.orders.specs.Turns.{ends}
+use Rattle.formats.proofs.Reading.{opened}
+use Rattle.replays.specs.Replays.{replayBy, replayOf}
+use Rattle.replays.specs.Coded.Turns.{ends}
 use Rattle.orders.proofs.replay.Statement.{statement}
 use Rattle.orders.proofs.replay.Tie as tie
 

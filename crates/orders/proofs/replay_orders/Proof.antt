@@ -10,11 +10,11 @@ use Rattle.sets.specs.Sets.{tick}
 use Rattle.rules.specs.declared.Machine.{Machine}
 use Rattle.rules.specs.declared.Called.{Called}
 use Rattle.history.specs.Runs.{Call, enters, steps, crashes, answer, isStep}
-use Rattle.files.specs.declared.Order.{Order}
-use Rattle.files.specs.Records.{orderAt}
-use Rattle.orders.specs.declared.Counts.{Counts}
-use Rattle.orders.specs.Turns.{counted, CountsFit}
-use Rattle.orders.proofs.Turns.{Going, going-none, over-end, over-spent, over-none, over-fault, going-enter, going-step, going-crash}
+use Rattle.formats.specs.declared.Order.{Order}
+use Rattle.formats.specs.Records.{orderAt}
+use Rattle.replays.specs.declared.Counts.{Counts}
+use Rattle.replays.specs.Coded.Turns.{counted, CountsFit}
+use Rattle.replays.proofs.Turns.{Going, going-none, over-end, over-spent, over-none, over-fault, going-enter, going-step, going-crash}
 use Rattle.orders.proofs.replay_orders.Statement.{statement}
 use Rattle.orders.proofs.replay_orders.Tie as tie
 

@@ -2,8 +2,8 @@
 use mathlib.Core.Path.{sym, ap, _∙_}
 use denote.Ref.{now}
 use borrow.Author.Needs.{needs}
-use Rattle.files.specs.ViewFile.{readBy, readOf}
-use Rattle.files.proofs.Reading.{opened}
+use Rattle.formats.specs.ViewFile.{readBy, readOf}
+use Rattle.formats.proofs.Reading.{opened}
 use Rattle.reader.proofs.read.Statement.{statement}
 use Rattle.reader.proofs.read.Tie as tie
 

@@ -6,11 +6,11 @@ use lib.ListN.{length}
 use denote.Ref.{now}
 use borrow.Author.Needs.{needs}
 use Rattle.sets.specs.Sets.{size}
-use Rattle.files.specs.ViewFile.{withView, testedAt, readFrom}
-use Rattle.files.specs.declared.Views.{Views}
-use Rattle.files.specs.Views.{noneOf}
-use Rattle.files.proofs.Turns.{read-end, read-fault, read-view}
-use Rattle.files.proofs.Reading.{Passed, passed}
+use Rattle.formats.specs.ViewFile.{withView, testedAt, readFrom}
+use Rattle.formats.specs.declared.Views.{Views}
+use Rattle.formats.specs.Views.{noneOf}
+use Rattle.formats.proofs.Turns.{read-end, read-fault, read-view}
+use Rattle.formats.proofs.Reading.{Passed, passed}
 use Rattle.reader.proofs.read_records.Statement.{statement}
 use Rattle.reader.proofs.read_records.Tie as tie
 

@@ -7,9 +7,9 @@ use denote.Ref.{now}
 use borrow.Author.Tests.{le-leb, lt-leb}
 use borrow.Author.Needs.{needs}
 use Rattle.sets.specs.Sets.{has, first, within}
-use Rattle.files.specs.Records.{fits}
-use Rattle.files.specs.ViewFile.{valuesFit}
-use Rattle.files.proofs.Tests.{told}
+use Rattle.formats.specs.Records.{fits}
+use Rattle.formats.specs.ViewFile.{valuesFit}
+use Rattle.formats.proofs.Tests.{told}
 use Rattle.reader.proofs.tested.Statement.{statement}
 use Rattle.reader.proofs.tested.Tie as tie
 

@@ -2,7 +2,7 @@
 use mathlib.Core.Path.{sym, ap, _∙_}
 use denote.Ref.{now}
 use borrow.Author.Needs.{needs}
-use Rattle.files.specs.ViewFile.{testedBy, testedAt}
+use Rattle.formats.specs.ViewFile.{testedBy, testedAt}
 use Rattle.reader.proofs.tested_at.Statement.{statement}
 use Rattle.reader.proofs.tested_at.Tie as tie
 

@@ -9,10 +9,10 @@ use denote.Ref.{now}
 use borrow.Author.Needs.{needs}
 use Rattle.sets.specs.Sets.{has, count}
 use Rattle.sets.proofs.Laws.{count-le}
-use Rattle.files.specs.Records.{wordAt}
-use Rattle.files.specs.ViewFile.{valuesRead}
-use Rattle.files.proofs.Tests.{told}
-use Rattle.files.proofs.Values.{count-in, count-out, values-in, values-out}
+use Rattle.formats.specs.Records.{wordAt}
+use Rattle.formats.specs.ViewFile.{valuesRead}
+use Rattle.formats.proofs.Tests.{told}
+use Rattle.formats.proofs.Values.{count-in, count-out, values-in, values-out}
 use Rattle.reader.proofs.values_read.Statement.{statement}
 use Rattle.reader.proofs.values_read.Tie as tie
 

@@ -3,9 +3,9 @@ use Prim.Native.Nat.{ℕ, _/_, _%_, _+_, _<_}
 use mathlib.Core.Path.{sym, _∙_}
 use mathlib.Core.List.{[], _∷_}
 use native.Mathlib.Omega.{arith}
-use Rattle.report.specs.Lines.{decimal}
-use Rattle.report.proofs.Stores.{room-first, room-rest, room-as, stored-as, then}
-use Rattle.report.proofs.Digits.{decimal-below, decimal-above}
+use Rattle.text.specs.Decimal.{decimal}
+use Rattle.text.proofs.Stores.{room-first, room-rest, room-as, stored-as, then}
+use Rattle.text.proofs.Decimal.{decimal-below, decimal-above}
 use borrow.Fn.Kinds.{In}
 use borrow.Fn.PlainCycle.{Measures, is, falls, and}
 use Rattle.report.proofs.put_decimal.Reads as put-decimal

@@ -1,7 +1,7 @@
 -- `report::put_byte` meets its contract.
 use denote.Ref.{now}
 use borrow.Author.Needs.{needs}
-use Rattle.report.proofs.Stores.{stored-byte}
+use Rattle.text.proofs.Stores.{stored-byte}
 use Rattle.report.proofs.put_byte.Statement.{statement}
 use Rattle.report.proofs.put_byte.Tie as tie
 

@@ -1,8 +1,8 @@
 -- `report::put_comma` meets its contract.
 use mathlib.Core.Path.{sym, ap}
 use denote.Ref.{now}
-use Rattle.report.specs.Lines.{comma}
-use Rattle.report.proofs.Stores.{room-as, stored-as, stored-none}
+use Rattle.output.specs.Lines.{comma}
+use Rattle.text.proofs.Stores.{room-as, stored-as, stored-none}
 use borrow.Author.Needs.{needs}
 use Rattle.report.proofs.put_comma.Statement.{statement}
 use Rattle.report.proofs.put_comma.Tie as tie

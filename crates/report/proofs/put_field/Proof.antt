@@ -1,6 +1,6 @@
 -- `report::put_field` meets its contract.
 use borrow.Author.Needs.{needs}
-use Rattle.report.proofs.Stores.{then}
+use Rattle.text.proofs.Stores.{then}
 use Rattle.report.proofs.put_field.Statement.{statement}
 use Rattle.report.proofs.put_field.Tie as tie
 

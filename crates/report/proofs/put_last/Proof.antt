@@ -2,8 +2,8 @@
 use Prim.Native.Nat.{ℕ}
 use mathlib.Core.Path.{sym, ap}
 use mathlib.Core.List.{[], _∷_}
-use Rattle.report.specs.Lines.{fields, line, participants, lastLine}
-use Rattle.report.proofs.Stores.{room-as, stored-as}
+use Rattle.output.specs.Lines.{fields, line, participants, lastLine}
+use Rattle.text.proofs.Stores.{room-as, stored-as}
 use borrow.Author.Needs.{needs}
 use Rattle.report.proofs.put_last.Statement.{statement}
 use Rattle.report.proofs.put_last.Tie as tie

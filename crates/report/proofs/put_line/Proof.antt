@@ -1,9 +1,9 @@
 -- `report::put_line` meets its contract: the word, the numbers, the line's end.
 use mathlib.Core.List.{[], _∷_, _++_}
 use denote.Ref.{now}
-use Rattle.report.specs.Lines.{fields}
-use Rattle.report.specs.Stores.{Room}
-use Rattle.report.proofs.Stores.{room-first, room-rest, then}
+use Rattle.output.specs.Lines.{fields}
+use Rattle.text.specs.Stores.{Room}
+use Rattle.text.proofs.Stores.{room-first, room-rest, then}
 use borrow.Author.Needs.{needs}
 use Rattle.report.proofs.put_line.Statement.{statement}
 use Rattle.report.proofs.put_line.Tie as tie

@@ -3,9 +3,10 @@ use Prim.Native.Nat.{ℕ}
 use mathlib.Core.Bool.{Bool}
 use mathlib.Core.Path.{_∙_}
 use mathlib.Core.List.{List, [], _∷_, _++_}
-use Rattle.report.specs.Lines.{decimal, comma, pair}
-use Rattle.report.specs.Stores.{Room}
-use Rattle.report.proofs.Stores.{room-first, room-rest, then}
+use Rattle.text.specs.Decimal.{decimal}
+use Rattle.output.specs.Lines.{comma, pair}
+use Rattle.text.specs.Stores.{Room}
+use Rattle.text.proofs.Stores.{room-first, room-rest, then}
 use Rattle.report.proofs.put_pair.Statement.{statement}
 use Rattle.report.proofs.put_pair.Tie as tie
 

@@ -2,7 +2,7 @@
 use Prim.Native.Nat.{_-_}
 use denote.Ref.{now}
 use borrow.Author.Needs.{needs}
-use Rattle.files.proofs.Tests.{told}
+use Rattle.formats.proofs.Tests.{told}
 use Rattle.report.proofs.Pairs.{Pairs, pairs-start, pair-room, pairs-in, pairs-out, pairs-all}
 use Rattle.report.proofs.put_pairs.Statement.{statement}
 use Rattle.report.proofs.put_pairs.Tie as tie

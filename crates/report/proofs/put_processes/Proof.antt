@@ -6,9 +6,9 @@ use mir.Syntax.{w32}
 use mir.Val.{Fits}
 use denote.Ref.{now}
 use borrow.Author.Needs.{needs}
-use Rattle.report.specs.Lines.{sightLine}
+use Rattle.output.specs.Lines.{sightLine}
 use Rattle.report.proofs.Fits.{sight-length}
-use Rattle.report.proofs.Stores.{stored-length}
+use Rattle.text.proofs.Stores.{stored-length}
 use Rattle.report.proofs.Processes.{Lines, lines-none, line-room, lines-more, lines-all}
 use Rattle.report.proofs.put_processes.Statement.{statement}
 use Rattle.report.proofs.put_processes.Tie as tie

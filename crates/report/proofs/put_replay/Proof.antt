@@ -4,9 +4,9 @@ use mathlib.Core.Path.{_≡_, _∙_}
 use native.Mathlib.Omega.{arith}
 use lib.ListN.{length}
 use denote.Ref.{now}
-use Rattle.report.specs.Lines.{runLine, replayLines, lastLine}
+use Rattle.output.specs.Lines.{runLine, replayLines, lastLine}
 use Rattle.report.proofs.Fits.{run-length, last-length}
-use Rattle.report.proofs.Stores.{stored-length, then}
+use Rattle.text.proofs.Stores.{stored-length, then}
 use borrow.Author.Needs.{needs}
 use Rattle.report.proofs.put_replay.Statement.{statement}
 use Rattle.report.proofs.put_replay.Tie as tie

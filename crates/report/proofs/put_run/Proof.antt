@@ -2,9 +2,9 @@
 use Prim.Native.Nat.{ℕ}
 use mathlib.Core.Path.{sym, ap}
 use mathlib.Core.List.{List, [], _∷_}
-use Rattle.orders.specs.declared.Replayed.{Replayed}
-use Rattle.report.specs.Lines.{fields, line, run, runLine}
-use Rattle.report.proofs.Stores.{room-as, stored-as}
+use Rattle.replays.specs.declared.Replayed.{Replayed}
+use Rattle.output.specs.Lines.{fields, line, run, runLine}
+use Rattle.text.proofs.Stores.{room-as, stored-as}
 use borrow.Author.Needs.{needs}
 use Rattle.report.proofs.put_run.Statement.{statement}
 use Rattle.report.proofs.put_run.Tie as tie

@@ -3,9 +3,9 @@ use Prim.Native.Nat.{ℕ}
 use mathlib.Core.Path.{_∙_}
 use mathlib.Core.List.{List, [], _∷_, _++_}
 use Rattle.rules.specs.declared.Sight.{Sight}
-use Rattle.report.specs.Lines.{p, field, stageWord, view, sightLine}
-use Rattle.report.specs.Stores.{Room}
-use Rattle.report.proofs.Stores.{room-first, room-rest, then}
+use Rattle.output.specs.Lines.{p, field, stageWord, view, sightLine}
+use Rattle.text.specs.Stores.{Room}
+use Rattle.text.proofs.Stores.{room-first, room-rest, then}
 use borrow.Author.Needs.{needs}
 use Rattle.report.proofs.put_sight.Statement.{statement}
 use Rattle.report.proofs.put_sight.Tie as tie

@@ -1,7 +1,7 @@
 -- `report::put_stage` meets its contract: each arm is the word of the stage that was found.
 use mathlib.Core.Path.{sym, ap}
-use Rattle.report.specs.Lines.{stageWord}
-use Rattle.report.proofs.Stores.{room-as, stored-as}
+use Rattle.output.specs.Lines.{stageWord}
+use Rattle.text.proofs.Stores.{room-as, stored-as}
 use borrow.Author.Needs.{needs}
 use Rattle.report.proofs.put_stage.Statement.{statement}
 use Rattle.report.proofs.put_stage.Tie as tie

@@ -1,5 +1,5 @@
 -- `report::put_verdict` meets its contract: the word and four numbers.
-use Rattle.report.specs.Lines.{verdictLine}
+use Rattle.output.specs.Lines.{verdictLine}
 use borrow.Author.Needs.{needs}
 use Rattle.report.proofs.put_verdict.Statement.{statement}
 use Rattle.report.proofs.put_verdict.Tie as tie

@@ -7,8 +7,8 @@ use denote.Enum.Declared.{tagOf}
 use Rattle.rules.specs.declared.Standing.{Standing}
 use Rattle.rules.specs.declared.Standing.the-variants.{Absent, Running, Finished, Crashed}
 use Rattle.rules.proofs.Standing.{the-type}
-use Rattle.report.specs.Lines.{view}
-use Rattle.report.proofs.Stores.{room-as, stored-as}
+use Rattle.output.specs.Lines.{view}
+use Rattle.text.proofs.Stores.{room-as, stored-as}
 use borrow.Author.Needs.{needs}
 use Rattle.report.proofs.put_view.Statement.{statement}
 use Rattle.report.proofs.put_view.Tie as tie

@@ -4,10 +4,11 @@ use native.Mathlib.Omega.{arith}
 use lib.ListN.{length}
 use denote.Ref.{now}
 use Rattle.rules.specs.Shape.{Shaped}
-use Rattle.orders.specs.declared.Replayed.{Replayed}
-use Rattle.orders.proofs.Promises.{every-file-demand-three}
-use Rattle.report.specs.Lines.{replayLines}
-use Rattle.report.proofs.Fits.{replay-short, replay-long, whole}
+use Rattle.replays.specs.declared.Replayed.{Replayed}
+use Rattle.replays.proofs.Promises.{every-file-demand-three}
+use Rattle.output.specs.Lines.{replayLines}
+use Rattle.output.proofs.ByLength.{replay-short, replay-long}
+use Rattle.report.proofs.Fits.{whole}
 use borrow.Author.Needs.{needs}
 use Rattle.report.proofs.replay_text.Statement.{statement}
 use Rattle.report.proofs.replay_text.Tie as tie

@@ -5,9 +5,11 @@ use borrow.Author.Needs.{needs}
 use denote.Ref.{now}
 use Prim.Native.Nat.{_≤_}
 use lib.ListN.{length}
-use Rattle.report.specs.Lines.{verdictLine}
-use Rattle.report.specs.Stores.{Room}
-use Rattle.report.proofs.Fits.{verdict-length, verdict-short, verdict-long, whole}
+use Rattle.output.specs.Lines.{verdictLine}
+use Rattle.text.specs.Stores.{Room}
+use Rattle.report.proofs.Fits.{verdict-length, whole}
+use Rattle.output.proofs.ByLength.{verdict-short}
+use Rattle.output.proofs.ByLength.{verdict-long}
 use Rattle.report.proofs.verdict_text.Statement.{statement}
 use Rattle.report.proofs.verdict_text.Tie as tie
 

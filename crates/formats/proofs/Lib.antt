@@ -1,0 +1,11 @@
+-- Laws of files, which the crates above cite, and examples.
+pub mod Tests
+pub mod Values
+pub mod Reading
+pub mod Turns
+pub mod Ranges
+pub mod Table
+pub mod WholeFile
+pub mod Bytes
+pub mod RoundTrip
+pub mod Examples

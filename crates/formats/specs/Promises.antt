@@ -1,0 +1,35 @@
+-- What the two definitions of a view file promise of each other. `proofs/` proves each, under the same name in small letters, with hyphens.
+use Prim.Native.Nat.{ℕ, _<_}
+use mathlib.Core.Bool.{true, false}
+use mathlib.Core.Path.{_≡_}
+use mathlib.Core.List.{List}
+use lib.ListN.{length}
+use Rattle.formats.specs.declared.Views.{Views}
+use Rattle.formats.specs.Numbers.{accepted}
+use Rattle.formats.specs.Records.{byteAt}
+use Rattle.formats.specs.Views.{InRange, noneOf}
+use Rattle.formats.specs.ViewFile.{fileOf, readWhole, readOf}
+
+-- a list of bytes
+abbrev pub Bytes : List ℕ → Type 0
+Bytes s = (i : ℕ) → byteAt s i < 256
+
+-- "A written view file reads back as the same views": for all views that a file can carry
+abbrev pub ReadsBack : Type 0
+ReadsBack = (v : Views) → InRange v → readOf (fileOf v) ≡ readWhole (fileOf v) v
+
+-- and what is written is bytes
+abbrev pub WritesBytes : Type 0
+WritesBytes = (v : Views) → InRange v → Bytes (fileOf v)
+
+-- A file that is read gives views that a file can carry,
+abbrev pub ReadInRange : Type 0
+ReadInRange = (s : List ℕ) → Bytes s → accepted (readOf s .answer) ≡ true → InRange (readOf s .views)
+
+-- and its place is its length.
+abbrev pub ReadPlace : Type 0
+ReadPlace = (s : List ℕ) → accepted (readOf s .answer) ≡ true → readOf s .place ≡ length s
+
+-- "a refused file gives n = 0 and no views"
+abbrev pub RefusedGivesNone : Type 0
+RefusedGivesNone = (s : List ℕ) → accepted (readOf s .answer) ≡ false → readOf s .views ≡ noneOf 0

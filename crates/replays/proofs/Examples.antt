@@ -1,0 +1,101 @@
+-- The examples, computed. The machine's test of its own shape is dear to compute, so a call that is made is first rid of it.
+use Prim.Native.Nat.{ℕ, _+_}
+use mathlib.Core.Bool.{not}
+use mathlib.Core.Path.{_≡_, refl, ap, _∙_}
+use mathlib.Core.List.{[], _∷_}
+use lib.Dec.{lit≤}
+use lib.ListN.{length}
+use Rattle.sets.specs.Sets.{tick, has, plus, setOf}
+use Rattle.rules.specs.declared.Called.{Called}
+use Rattle.rules.specs.Calls.{accepted, fresh}
+use Rattle.rules.proofs.Laws.Keeps.{meets-fresh}
+use Rattle.rules.proofs.Laws.Bare.{step-bare}
+use Rattle.history.specs.Runs.{steps, from, tally, allSteps, refusedCalls, stepTaken, notTaken}
+use Rattle.history.specs.Examples.{printed}
+use Rattle.history.proofs.Examples.{printed-counts}
+use Rattle.formats.specs.declared.FileAnswer.the-variants.{Whole}
+use Rattle.formats.specs.Numbers.{numberOf}
+use Rattle.formats.specs.Records.{markOf, markAt, headerOf, orderAt}
+use Rattle.replays.specs.Replays.{Orders, ordersFrom, replayOf}
+use Rattle.text.specs.Parts.{joined}
+use Rattle.formats.specs.ViewFile.{viewBytes, fileOf}
+use Rattle.replays.specs.Writes.{viewsOf, bytesOf}
+use Rattle.replays.specs.Examples.{Runs, printedFile, Printed, Small, Refused, Written}
+
+-- what the printed file holds, with a budget of 12 or more
+holds-printed : ordersFrom 65535 printedFile 3 ≡ record { answer = Whole; place = 47; calls = printed }
+unfolding ordersFrom orderAt markAt markOf
+holds-printed = refl
+
+holds-twelve : ordersFrom 12 printedFile 3 ≡ record { answer = Whole; place = 47; calls = printed }
+unfolding ordersFrom orderAt markAt markOf
+holds-twelve = refl
+
+line-of : (budget : ℕ) → ordersFrom budget printedFile 3 ≡ record { answer = Whole; place = 47; calls = printed } → Runs printedFile budget 0 47 12 9 1
+unfolding replayOf headerOf markAt markOf
+line-of budget e =
+    record {
+      number-is = ap (λ (o : Orders). numberOf (o .answer)) e;
+      place-is = ap (λ (o : Orders). o .place) e;
+      taken-is = ap (λ (o : Orders). length (o .calls)) e;
+      accesses-is = ap (λ (o : Orders). allSteps 2 (o .calls)) e ∙ printed-counts .accesses;
+      refused-is = ap (λ (o : Orders). refusedCalls 2 (o .calls)) e ∙ printed-counts .refused;
+    }
+
+pub printed-example : Printed
+unfolding replayOf headerOf ordersFrom orderAt markAt markOf
+printed-example =
+    record {
+      line = line-of 65535 holds-printed;
+      state = ap (λ (o : Orders). from (fresh 2) (o .calls)) holds-printed;
+      enough = line-of 12 holds-twelve;
+      short-number = refl;
+      short-place = refl;
+      short-taken = refl;
+    }
+
+pub small-examples : Small
+unfolding replayOf headerOf ordersFrom orderAt markAt markOf tally from
+small-examples =
+    record {
+      spent-none = record { number-is = refl; place-is = refl; taken-is = refl; accesses-is = refl; refused-is = refl };
+      spent-one = record { number-is = refl; place-is = refl; taken-is = refl; accesses-is = refl; refused-is = refl };
+      spent-header = record { number-is = refl; place-is = refl; taken-is = refl; accesses-is = refl; refused-is = refl };
+      empty = record { number-is = refl; place-is = refl; taken-is = refl; accesses-is = refl; refused-is = refl };
+      one-byte = record { number-is = refl; place-is = refl; taken-is = refl; accesses-is = refl; refused-is = refl };
+      other-mark = record { number-is = refl; place-is = refl; taken-is = refl; accesses-is = refl; refused-is = refl };
+      bare-mark = record { number-is = refl; place-is = refl; taken-is = refl; accesses-is = refl; refused-is = refl };
+      none = record { number-is = refl; place-is = refl; taken-is = refl; accesses-is = refl; refused-is = refl };
+      many = record { number-is = refl; place-is = refl; taken-is = refl; accesses-is = refl; refused-is = refl };
+      most = record { number-is = refl; place-is = refl; taken-is = refl; accesses-is = refl; refused-is = refl };
+      byte-left = record { number-is = refl; place-is = refl; taken-is = refl; accesses-is = refl; refused-is = refl };
+      again = record { number-is = refl; place-is = refl; taken-is = refl; accesses-is = refl; refused-is = refl };
+      again-bare = record { number-is = refl; place-is = refl; taken-is = refl; accesses-is = refl; refused-is = refl };
+      view = record { number-is = refl; place-is = refl; taken-is = refl; accesses-is = refl; refused-is = refl };
+      foreign = record { number-is = refl; place-is = refl; taken-is = refl; accesses-is = refl; refused-is = refl };
+      enter-cut = record { number-is = refl; place-is = refl; taken-is = refl; accesses-is = refl; refused-is = refl };
+      step-cut = record { number-is = refl; place-is = refl; taken-is = refl; accesses-is = refl; refused-is = refl };
+      crash-cut = record { number-is = refl; place-is = refl; taken-is = refl; accesses-is = refl; refused-is = refl };
+    }
+
+-- process 3 of 2 is refused
+one-refused : tally notTaken (fresh 2) (steps 3 ∷ []) ≡ 1
+unfolding tally
+one-refused = ap (λ (c : Called). tick (not (accepted c)) + 0) (step-bare 2 (fresh 2) (meets-fresh 2 (lit≤ tt) (lit≤ tt)) 3)
+
+no-access : tally stepTaken (fresh 2) (steps 3 ∷ []) ≡ 0
+unfolding tally
+no-access = ap (λ (c : Called). tick (accepted c) + 0) (step-bare 2 (fresh 2) (meets-fresh 2 (lit≤ tt) (lit≤ tt)) 3)
+
+pub refused-examples : Refused
+unfolding replayOf headerOf ordersFrom orderAt markAt markOf
+refused-examples =
+    record {
+      skipped = record { number-is = refl; place-is = refl; taken-is = refl; accesses-is = no-access; refused-is = one-refused };
+      then-cut = record { number-is = refl; place-is = refl; taken-is = refl; accesses-is = no-access; refused-is = one-refused };
+      then-spent = record { number-is = refl; place-is = refl; taken-is = refl; accesses-is = no-access; refused-is = one-refused };
+    }
+
+pub written-examples : Written
+unfolding bytesOf viewsOf fileOf viewBytes joined setOf has plus
+written-examples = record { alone = refl; two = refl; none = refl }

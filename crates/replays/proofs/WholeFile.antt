@@ -1,0 +1,309 @@
+-- Replaying along a whole file: where it stops, with which calls, and each number exactly when it applies there.
+use Prim.Native.Nat.{ℕ, zero, suc, _+_, _-_, _≤_, _<_}
+use mathlib.Core.Bool.{Bool, true, false, cond}
+use mathlib.Core.Path.{_≡_, refl, sym, ap, _∙_, subst}
+use mathlib.Core.Logic.{inl, inr, _≢_, ⊎-elim}
+use mathlib.Core.List.{List, [], _∷_, _++_, append-assoc, append-nil}
+use native.Mathlib.Nat.{eq-or-lt-of-le}
+use native.Mathlib.Omega.{arith}
+use lib.Dec.{leb, eqb}
+use lib.ListN.{length, length-append}
+use borrow.Author.Tests.{leb-true, leb-false, eqb-true, eqb-false, eq-eqb, ne-eqb}
+use Rattle.rules.proofs.Laws.Small.{at-most-or-above}
+use Rattle.history.specs.Runs.{Call, enters, steps, crashes}
+use Rattle.formats.specs.declared.FileAnswer.{FileAnswer}
+use Rattle.formats.specs.declared.FileAnswer.the-variants.{Whole, BudgetSpent}
+use Rattle.formats.specs.declared.Header.{Header}
+use Rattle.formats.specs.declared.Order.{Order}
+use Rattle.formats.specs.Numbers.{numberOf}
+use Rattle.formats.specs.Records.{headerOf, orderAt}
+use Rattle.sets.specs.Lines.{firstThat}
+use Rattle.formats.proofs.Reading.{opened}
+use Rattle.formats.proofs.Table.{headerNumber, header-number, header-refused}
+use Rattle.replays.specs.Replays.{Orders, ended, then, onward, ordersFrom, replayBy, replayOf, callsBy, callsOf}
+use Rattle.replays.specs.Table.{orderLines, Holds, start, enter, step, crash, HoldsOne, Refusal, RefusedExactly, ToTheEnd, WholeExactly}
+use Rattle.replays.proofs.Turns.{width, whole-order, order-end, from-end, from-spent, from-order}
+use Rattle.replays.proofs.Orders.{orderNumber, order-number, not-end}
+
+-- calls made before others
+after : List Call → Orders → Orders
+after cs o = record { answer = o .answer; place = o .place; calls = cs ++ o .calls }
+
+one-later : (cs : List Call) (c : Call) (o : Orders) → after cs (then c o) ≡ after (cs ++ c ∷ []) o
+unfolding after
+one-later cs c o =
+    ap (λ (l : List Call). record { answer = o .answer; place = o .place; calls = l }) (sym (append-assoc cs (c ∷ []) (o .calls)))
+
+-- A place that reading comes to within the budget: what is left is read from there.
+record Comes (s : List ℕ) (budget at : ℕ) (cs : List Call) : Type 0 where
+  inside : at ≤ length s
+  header : (n : ℕ) × (headerOf s ≡ Header.Of n)
+  same : ordersFrom budget s 3 ≡ after cs (ordersFrom (budget - length cs) s at)
+
+one-more : (s : List ℕ) (budget at : ℕ) (cs : List Call) (c : Call) (o : Order) → Comes s budget at cs → length (cs ++ c ∷ []) ≤ budget → orderAt s at ≡ o
+    → ((k : ℕ) → onward s at o (ordersFrom k s) ≡ then c (ordersFrom k s (at + width o))) → Comes s budget (at + width o) (cs ++ c ∷ [])
+one-more s budget at cs c o g l e f =
+    let k = budget - length (cs ++ c ∷ []) in
+    let z : budget - length cs ≡ suc k = omega (arith, length-append cs (c ∷ [])) in
+    record {
+      inside = whole-order s at o (g .inside) e;
+      header = g .header;
+      same = g .same ∙ ap (after cs) (from-order (budget - length cs) k s at o z e ∙ f k) ∙ one-later cs c (ordersFrom k s (at + width o));
+    }
+
+-- what came before is within the budget too
+fewer : (cs : List Call) (c : Call) (budget : ℕ) → length (cs ++ c ∷ []) ≤ budget → length cs ≤ budget
+fewer cs c budget l = omega (arith, length-append cs (c ∷ []))
+
+comes : {s : List ℕ} {at : ℕ} {cs : List Call} (budget : ℕ) → Holds s at cs → length cs ≤ budget → Comes s budget at cs
+unfolding after
+comes {s} budget (start {n = n} e) l =
+    let z : budget ≡ budget - 0 = omega arith in
+    record { inside = opened s n e .long; header = (n, e); same = ap (λ (k : ℕ). ordersFrom k s 3) z }
+comes {s} budget (enter {at = at} {cs = cs} {p = p} {v = v} h e) l =
+    one-more s budget at cs (enters p v) (Order.Enter p v) (comes budget h (fewer cs (enters p v) budget l)) l e (λ k. refl)
+comes {s} budget (step {at = at} {cs = cs} {p = p} h e) l =
+    one-more s budget at cs (steps p) (Order.Step p) (comes budget h (fewer cs (steps p) budget l)) l e (λ k. refl)
+comes {s} budget (crash {at = at} {cs = cs} {p = p} h e) l =
+    one-more s budget at cs (crashes p) (Order.Crash p) (comes budget h (fewer cs (crashes p) budget l)) l e (λ k. refl)
+
+-- Where reading stops, from a place on with k orders left to take: at the end, at the budget, or at a fault.
+data Why (s : List ℕ) (k : ℕ) (o : Orders) : Type 0 where
+  whole : o .answer ≡ Whole → o .place ≡ length s → Why s k o
+  spent : o .answer ≡ BudgetSpent → o .place < length s → length (o .calls) ≡ k → Why s k o
+  fault : (a : FileAnswer) → o .answer ≡ a → o .place < length s → length (o .calls) < k → orderAt s (o .place) ≡ Order.Fault a → Why s k o
+
+record Stops (s : List ℕ) (k : ℕ) (cs : List Call) (o : Orders) : Type 0 where
+  held : Holds s (o .place) (cs ++ o .calls)
+  most : length (o .calls) ≤ k
+  why : Why s k o
+
+-- with no order more
+holds-none : (s : List ℕ) (at : ℕ) (cs : List Call) → Holds s at cs → Holds s at (cs ++ [])
+holds-none s at cs h = subst (Holds s at) (sym (append-nil cs)) h
+
+stops-end : (s : List ℕ) (k at : ℕ) (cs : List Call) → Holds s at cs → at ≡ length s → Stops s k cs (ended Whole (length s))
+stops-end s k at cs h e =
+    record { held = subst (λ (x : ℕ). Holds s x (cs ++ [])) e (holds-none s at cs h); most = omega arith; why = whole refl refl }
+
+stops-zero : (s : List ℕ) (at : ℕ) (cs : List Call) → Holds s at cs → at ≤ length s → (b : Bool) → leb (length s) at ≡ b
+    → Stops s 0 cs (cond b (ended Whole (length s)) (ended BudgetSpent at))
+stops-zero s at cs h l true e = stops-end s 0 at cs h (omega (arith, leb-true (length s) at e))
+stops-zero s at cs h l false e =
+    record { held = holds-none s at cs h; most = omega arith; why = spent refl (leb-false (length s) at e) refl }
+
+-- one order before the others
+why-then : (s : List ℕ) (k : ℕ) (c : Call) (o : Orders) → Why s k o → Why s (suc k) (then c o)
+why-then s k c o (whole e p) = whole e p
+why-then s k c o (spent e p l) = spent e p (ap suc l)
+why-then s k c o (fault a e p l f) = fault a e p (omega arith) f
+
+stops-then : (s : List ℕ) (k : ℕ) (cs : List Call) (c : Call) (o : Orders) → Stops s k (cs ++ c ∷ []) o → Stops s (suc k) cs (then c o)
+stops-then s k cs c o g =
+    record {
+      held = subst (Holds s (o .place)) (append-assoc cs (c ∷ []) (o .calls)) (g .held);
+      most = omega (arith, g .most);
+      why = why-then s k c o (g .why);
+    }
+
+stops-by : (s : List ℕ) (k at : ℕ) (cs : List Call) → Holds s at cs → at ≤ length s
+    → ((at : ℕ) (cs : List Call) → Holds s at cs → at ≤ length s → Stops s k cs (ordersFrom k s at))
+    → (o : Order) → orderAt s at ≡ o → Stops s (suc k) cs (onward s at o (ordersFrom k s))
+stops-by s k at cs h l go Order.End e =
+    ⊎-elim (λ q. stops-end s (suc k) at cs h q) (λ q. absurd (not-end s at q e)) (eq-or-lt-of-le l)
+stops-by s k at cs h l go (Order.Fault a) e =
+    ⊎-elim
+    (λ q. let z : Order.End ≡ Order.Fault a = sym (order-end s at (omega arith)) ∙ e in
+    let y : _≡_ {A = ℕ} 0 1 = cc in absurd (omega arith))
+    (λ q. record { held = holds-none s at cs h; most = omega arith; why = fault a refl q (omega arith) e })
+    (eq-or-lt-of-le l)
+stops-by s k at cs h l go (Order.Enter p v) e =
+    stops-then s k cs (enters p v) (ordersFrom k s (at + 7)) (go (at + 7) (cs ++ enters p v ∷ []) (enter h e) (whole-order s at (Order.Enter p v) l e))
+stops-by s k at cs h l go (Order.Step p) e =
+    stops-then s k cs (steps p) (ordersFrom k s (at + 3)) (go (at + 3) (cs ++ steps p ∷ []) (step h e) (whole-order s at (Order.Step p) l e))
+stops-by s k at cs h l go (Order.Crash p) e =
+    stops-then s k cs (crashes p) (ordersFrom k s (at + 3)) (go (at + 3) (cs ++ crashes p ∷ []) (crash h e) (whole-order s at (Order.Crash p) l e))
+
+stops : (k : ℕ) (s : List ℕ) (at : ℕ) (cs : List Call) → Holds s at cs → at ≤ length s → Stops s k cs (ordersFrom k s at)
+unfolding ordersFrom
+stops zero s at cs h l = stops-zero s at cs h l (leb (length s) at) refl
+stops (suc k) s at cs h l = stops-by s k at cs h l (λ at′ cs′ h′ l′. stops k s at′ cs′ h′ l′) (orderAt s at) refl
+
+-- A place has one list of calls: an order moves the place on.
+grows-zero : (s : List ℕ) (at : ℕ) → at ≤ length s → (b : Bool)
+    → at + length (cond b (ended Whole (length s)) (ended BudgetSpent at) .calls) ≤ cond b (ended Whole (length s)) (ended BudgetSpent at) .place
+grows-zero s at l true = omega arith
+grows-zero s at l false = omega arith
+
+grows-by : (s : List ℕ) (k at : ℕ) → at ≤ length s
+    → ((at : ℕ) → at ≤ length s → at + length (ordersFrom k s at .calls) ≤ ordersFrom k s at .place)
+    → (o : Order) → orderAt s at ≡ o → at + length (onward s at o (ordersFrom k s) .calls) ≤ onward s at o (ordersFrom k s) .place
+grows-by s k at l go Order.End e = omega arith
+grows-by s k at l go (Order.Fault a) e = omega arith
+grows-by s k at l go (Order.Enter p v) e = omega (arith, go (at + 7) (whole-order s at (Order.Enter p v) l e))
+grows-by s k at l go (Order.Step p) e = omega (arith, go (at + 3) (whole-order s at (Order.Step p) l e))
+grows-by s k at l go (Order.Crash p) e = omega (arith, go (at + 3) (whole-order s at (Order.Crash p) l e))
+
+grows : (k : ℕ) (s : List ℕ) (at : ℕ) → at ≤ length s → at + length (ordersFrom k s at .calls) ≤ ordersFrom k s at .place
+unfolding ordersFrom
+grows zero s at l = grows-zero s at l (leb (length s) at)
+grows (suc k) s at l = grows-by s k at l (λ i h. grows k s i h) (orderAt s at) refl
+
+none-left : (s : List ℕ) (at : ℕ) → at ≤ length s → (b : Bool) → leb (length s) at ≡ b
+    → (cond b (ended Whole (length s)) (ended BudgetSpent at) .calls ≡ []) × (cond b (ended Whole (length s)) (ended BudgetSpent at) .place ≡ at)
+none-left s at l true e = (refl, omega (arith, leb-true (length s) at e))
+none-left s at l false e = (refl, refl)
+
+no-calls : (s : List ℕ) (at k : ℕ) → at ≤ length s → k ≡ 0 → (ordersFrom k s at .calls ≡ []) × (ordersFrom k s at .place ≡ at)
+unfolding ordersFrom
+no-calls s at k l e =
+    let t = none-left s at l (leb (length s) at) refl in
+    (ap (λ (j : ℕ). ordersFrom j s at .calls) e ∙ t .0, ap (λ (j : ℕ). ordersFrom j s at .place) e ∙ t .1)
+
+empty : (cs : List Call) → length cs ≡ 0 → cs ≡ []
+empty [] e = refl
+empty (c ∷ cs) e = absurd (omega arith)
+
+one-list : (s : List ℕ) (at : ℕ) (cs ds : List Call) → Holds s at cs → Holds s at ds → length cs ≤ length ds → cs ≡ ds
+unfolding after
+one-list s at cs ds h g l =
+    let c = comes (length ds) h l in
+    let d = comes (length ds) g (omega arith) in
+    let o : after cs (ordersFrom (length ds - length cs) s at) ≡ after ds (ordersFrom (length ds - length ds) s at) = sym (c .same) ∙ d .same in
+    let z : length ds - length ds ≡ 0 = omega arith in
+    let t = no-calls s at (length ds - length ds) (d .inside) z in
+    let place : ordersFrom (length ds - length cs) s at .place ≡ at = ap (λ (x : Orders). x .place) o ∙ t .1 in
+    let none : ordersFrom (length ds - length cs) s at .calls ≡ []
+    = empty (ordersFrom (length ds - length cs) s at .calls) (omega (arith, grows (length ds - length cs) s at (d .inside))) in
+    sym (append-nil cs) ∙ ap (λ (x : List Call). cs ++ x) (sym none) ∙ ap (λ (x : Orders). x .calls) o
+    ∙ ap (λ (x : List Call). ds ++ x) (t .0) ∙ append-nil ds
+
+pub holds-one : HoldsOne
+holds-one s at cs ds h g =
+    ⊎-elim (λ l. one-list s at cs ds h g l) (λ l. sym (one-list s at ds cs g h (omega arith))) (at-most-or-above (length cs) (length ds))
+
+-- a file whose header is read
+file-stops : (s : List ℕ) (budget n : ℕ) → headerOf s ≡ Header.Of n → Stops s budget [] (ordersFrom budget s 3)
+file-stops s budget n e = stops budget s 3 [] (start e) (opened s n e .long)
+
+-- what a replay answers, by its header
+module _ (s : List ℕ) (budget : ℕ) where
+  pub read-header : (n : ℕ) → headerOf s ≡ Header.Of n
+      → (replayOf s budget .answer ≡ ordersFrom budget s 3 .answer) × (replayOf s budget .place ≡ ordersFrom budget s 3 .place)
+      × (callsOf s budget ≡ ordersFrom budget s 3 .calls)
+  unfolding replayOf
+  read-header n e = (
+    ap (λ (h : Header). replayBy s budget h .answer) e,
+    ap (λ (h : Header). replayBy s budget h .place) e,
+    ap (callsBy s budget) e,
+  )
+
+  pub refused-header : (a : FileAnswer) → headerOf s ≡ Header.Fault a → (replayOf s budget .answer ≡ a) × (replayOf s budget .place ≡ 0)
+  unfolding replayOf
+  refused-header a e = (ap (λ (h : Header). replayBy s budget h .answer) e, ap (λ (h : Header). replayBy s budget h .place) e)
+
+-- the calls made are those that the file holds up to the place
+pub held-calls : (s : List ℕ) (budget n : ℕ) → headerOf s ≡ Header.Of n → Holds s (replayOf s budget .place) (callsOf s budget)
+held-calls s budget n e =
+    let r = read-header s budget n e in
+    subst (λ (x : ℕ). Holds s x (callsOf s budget)) (sym (r .1)) (subst (Holds s (ordersFrom budget s 3 .place)) (sym (r .2)) (file-stops s budget n e .held))
+
+pub few-calls : (s : List ℕ) (budget n : ℕ) → headerOf s ≡ Header.Of n → length (ordersFrom budget s 3 .calls) ≤ budget
+few-calls s budget n e = file-stops s budget n e .most
+
+-- Each number exactly when it applies.
+module _ (s : List ℕ) (budget k at : ℕ) (some : k ≢ 0) where
+  refusal-why : (n : ℕ) → (o : Orders) → Stops s budget [] o → numberOf (o .answer) ≡ k → o .place ≡ at → Why s budget o → Refusal s budget k at
+  refusal-why n o g e p (whole w q) = absurd (some (sym e ∙ ap numberOf w))
+  refusal-why n o g e p (spent w q l) =
+      inr (
+        o .calls,
+        subst (λ (x : ℕ). Holds s x (o .calls)) p (g .held),
+        g .most,
+        subst (λ (x : ℕ). x < length s) p q,
+        ap (λ (b : Bool). cond b 13 (firstThat (orderLines s at))) (eq-eqb (length (o .calls)) budget l) ∙ sym (ap numberOf w) ∙ e,
+      )
+  refusal-why n o g e p (fault a w q l f) =
+      let ne : eqb (length (o .calls)) budget ≡ false = ne-eqb (length (o .calls)) budget (λ z. omega arith) in
+      let number : firstThat (orderLines s (o .place)) ≡ k = sym (order-number s (o .place) q) ∙ ap orderNumber f ∙ sym (ap numberOf w) ∙ e in
+      inr (
+        o .calls,
+        subst (λ (x : ℕ). Holds s x (o .calls)) p (g .held),
+        g .most,
+        subst (λ (x : ℕ). x < length s) p q,
+        ap (λ (b : Bool). cond b 13 (firstThat (orderLines s at))) ne ∙ subst (λ (x : ℕ). firstThat (orderLines s x) ≡ k) p number,
+      )
+
+  refusal-by : (h : Header) → headerOf s ≡ h → numberOf (replayOf s budget .answer) ≡ k → replayOf s budget .place ≡ at → Refusal s budget k at
+  refusal-by (Header.Fault a) h e p =
+      let r = refused-header s budget a h in
+      inl (sym p ∙ r .1, sym (header-number s) ∙ ap headerNumber h ∙ sym (ap numberOf (r .0)) ∙ e)
+  refusal-by (Header.Of n) h e p =
+      let r = read-header s budget n h in
+      let g = file-stops s budget n h in
+      refusal-why n (ordersFrom budget s 3) g (sym (ap numberOf (r .0)) ∙ e) (sym (r .1) ∙ p) (g .why)
+
+  -- the other way
+  Answers : Type 0
+  Answers = (numberOf (replayOf s budget .answer) ≡ k) × (replayOf s budget .place ≡ at)
+
+  answers : (a : FileAnswer) (cs : List Call) → Comes s budget at cs → ordersFrom (budget - length cs) s at ≡ ended a at → numberOf a ≡ k → Answers
+  unfolding Answers after
+  answers a cs c e z =
+      let r = read-header s budget (c .header .0) (c .header .1) in
+      let o : ordersFrom budget s 3 ≡ after cs (ended a at) = c .same ∙ ap (after cs) e in
+      (ap numberOf (r .0 ∙ ap (λ (x : Orders). x .answer) o) ∙ z, r .1 ∙ ap (λ (x : Orders). x .place) o)
+
+  order-answers : (cs : List Call) → Comes s budget at cs → length cs < budget → (o : Order) → orderAt s at ≡ o → orderNumber o ≡ k → Answers
+  order-answers cs c l Order.End e z = absurd (some (sym z))
+  order-answers cs c l (Order.Enter p v) e z = absurd (some (sym z))
+  order-answers cs c l (Order.Step p) e z = absurd (some (sym z))
+  order-answers cs c l (Order.Crash p) e z = absurd (some (sym z))
+  order-answers cs c l (Order.Fault a) e z =
+      answers a cs c (from-order (budget - length cs) (budget - (length cs + 1)) s at (Order.Fault a) (omega arith) e) z
+
+  record-answers : (cs : List Call) → Holds s at cs → length cs ≤ budget → at < length s → (b : Bool) → eqb (length cs) budget ≡ b
+      → cond b 13 (firstThat (orderLines s at)) ≡ k → Answers
+  record-answers cs h l in-file true e z =
+      answers BudgetSpent cs (comes budget h l) (from-spent (budget - length cs) s at (omega (arith, eqb-true (length cs) budget e)) in-file) z
+  record-answers cs h l in-file false e z =
+      let less : length cs < budget = ⊎-elim (λ q. absurd (eqb-false (length cs) budget e q)) (λ q. q) (eq-or-lt-of-le l) in
+      order-answers cs (comes budget h l) less (orderAt s at) refl (order-number s at in-file ∙ z)
+
+header-answers : (s : List ℕ) (budget k : ℕ) → k ≢ 0 → (h : Header) → headerOf s ≡ h → headerNumber h ≡ k
+    → (numberOf (replayOf s budget .answer) ≡ k) × (replayOf s budget .place ≡ 0)
+header-answers s budget k n (Header.Of m) e f = absurd (n (sym f))
+header-answers s budget k n (Header.Fault a) e f = let r = refused-header s budget a e in (ap numberOf (r .0) ∙ f, r .1)
+
+refused-at : (s : List ℕ) (budget k at : ℕ) → k ≢ 0 → Refusal s budget k at → (numberOf (replayOf s budget .answer) ≡ k) × (replayOf s budget .place ≡ at)
+unfolding Answers
+refused-at s budget k at n =
+    ⊎-elim
+    (λ p. let r = header-answers s budget k n (headerOf s) refl (header-number s ∙ p .1) in (r .0, r .1 ∙ sym (p .0)))
+    (λ p. record-answers s budget k at n (p .0) (p .1) (p .2) (p .3) (eqb (length (p .0)) budget) refl (p .4))
+
+pub refused-exactly : RefusedExactly
+refused-exactly s budget k at n = (λ p. refusal-by s budget k at n (headerOf s) refl (p .0) (p .1), refused-at s budget k at n)
+
+-- And 0.
+ends-by : (s : List ℕ) (budget : ℕ) (cs : List Call) → ToTheEnd s budget cs → (h : Header) → headerOf s ≡ h → Holds s (length s) cs × (length cs ≤ budget)
+ends-by s budget cs t (Header.Fault a) e = absurd (header-refused s a e (sym (ap numberOf (refused-header s budget a e .0)) ∙ t .number))
+ends-by s budget cs t (Header.Of n) e =
+    let c : ordersFrom budget s 3 .calls ≡ cs = sym (read-header s budget n e .2) ∙ t .calls in (
+      subst (λ (x : ℕ). Holds s x cs) (t .place) (subst (Holds s (replayOf s budget .place)) (t .calls) (held-calls s budget n e)),
+      omega (arith, few-calls s budget n e, ap length c),
+    )
+
+ends-with : (s : List ℕ) (budget : ℕ) (cs : List Call) → Comes s budget (length s) cs → ToTheEnd s budget cs
+unfolding after
+ends-with s budget cs c =
+    let r = read-header s budget (c .header .0) (c .header .1) in
+    let o : ordersFrom budget s 3 ≡ after cs (ended Whole (length s)) = c .same ∙ ap (after cs) (from-end (budget - length cs) s (length s) (omega arith)) in
+    record {
+      number = ap numberOf (r .0 ∙ ap (λ (x : Orders). x .answer) o);
+      place = r .1 ∙ ap (λ (x : Orders). x .place) o;
+      calls = r .2 ∙ ap (λ (x : Orders). x .calls) o ∙ append-nil cs;
+    }
+
+pub whole-exactly : WholeExactly
+whole-exactly s budget cs = (λ t. ends-by s budget cs t (headerOf s) refl, λ p. ends-with s budget cs (comes budget (p .0) (p .1)))

@@ -1,0 +1,53 @@
+-- Replaying order by order, as the code does it: the three counts and the state after the orders taken so far.
+use Prim.Native.Nat.{ℕ, _+_, _≤_, _<_}
+use mathlib.Core.Bool.{cond}
+use lib.Dec.{eqb}
+use lib.ListN.{length}
+use Rattle.sets.specs.Sets.{tick}
+use Rattle.rules.specs.declared.Answer.{Answer}
+use Rattle.rules.specs.declared.Machine.{Machine}
+use Rattle.rules.specs.Calls.{numberOf}
+use Rattle.history.specs.Runs.{Call, answer, from, tally, isStep, stepTaken, notTaken}
+use Rattle.formats.specs.declared.FileAnswer.{FileAnswer}
+use Rattle.replays.specs.declared.Counts.{Counts}
+use Rattle.replays.specs.declared.Replayed.{Replayed}
+use Rattle.replays.specs.Replays.{Orders}
+
+-- no order taken yet
+abbrev pub none : Counts
+none = record { taken = 0; accesses = 0; refused = 0 }
+
+-- one order more, which the machine has answered; `step` is 1 for a step and 0 otherwise
+abbrev pub counted : Counts → Answer → ℕ → Counts
+counted k a step =
+    record {
+      taken = k .taken + 1;
+      accesses = cond (eqb (numberOf a) 0) (k .accesses + step) (k .accesses);
+      refused = cond (eqb (numberOf a) 0) (k .refused) (k .refused + 1);
+    }
+
+-- the counts after one call more on a machine
+abbrev pub took : Counts → Machine → Call → Counts
+took k m c = counted k (answer m c .answer) (tick (isStep c))
+
+-- where the replay ends
+abbrev pub ends : FileAnswer → ℕ → Counts → Machine → Replayed
+ends a at k m = record { answer = a; place = at; taken = k .taken; accesses = k .accesses; refused = k .refused; machine = m }
+
+-- the orders that are left, taken after those that were counted and left the machine
+abbrev pub resumed : Counts → Machine → Orders → Replayed
+resumed k m o =
+    record {
+      answer = o .answer;
+      place = o .place;
+      taken = k .taken + length (o .calls);
+      accesses = k .accesses + tally stepTaken m (o .calls);
+      refused = k .refused + tally notTaken m (o .calls);
+      machine = from m (o .calls);
+    }
+
+-- one order more can be counted; no count passes the orders taken
+pub record CountsFit (k : Counts) : Type 0 where
+  pub more : k .taken < 4294967295
+  pub accesses : k .accesses ≤ k .taken
+  pub refused : k .refused ≤ k .taken

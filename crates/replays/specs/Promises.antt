@@ -1,0 +1,122 @@
+-- What is promised of every order file, every budget and every view file that is written. `proofs/` proves each, under the same name in small
+-- letters, with hyphens.
+use Prim.Native.Nat.{ℕ, _+_, _-_, _*_, _≤_, _<_}
+use mathlib.Core.Bool.{true}
+use mathlib.Core.Path.{_≡_}
+use mathlib.Core.Logic.{_↔_}
+use mathlib.Core.List.{List, _++_}
+use lib.ListN.{length, getD, drop}
+use Rattle.sets.specs.Sets.{count, size}
+use Rattle.sets.specs.Immediate.{Immediate}
+use Rattle.rules.specs.declared.Machine.{Machine}
+use Rattle.rules.specs.declared.Standing.{Standing}
+use Rattle.rules.specs.State.{stageOf, finished, foundOf}
+use Rattle.rules.specs.Shape.{Held, Words, shaped}
+use Rattle.rules.specs.Calls.{lookOf}
+use Rattle.rules.specs.Statements.{Meets}
+use Rattle.history.specs.Runs.{Call, runs, acceptedSteps, allSteps, refusedCalls, reached, given}
+use Rattle.history.specs.Views.{Has, View}
+use Rattle.history.specs.Theorems.{OfEveryRun, NeitherOneNorSeven, total}
+use Rattle.formats.specs.declared.FileAnswer.{FileAnswer}
+use Rattle.formats.specs.declared.FileAnswer.the-variants.{Whole}
+use Rattle.formats.specs.declared.Header.{Header}
+use Rattle.formats.specs.Records.{headerOf}
+use Rattle.formats.specs.Views.{owns, seenBy, valueBy}
+use Rattle.formats.specs.ViewFile.{readOf, readWhole}
+use Rattle.formats.specs.Promises.{Bytes}
+use Rattle.findings.specs.declared.Finding.{Finding}
+use Rattle.findings.specs.Findings.{found, checkOf}
+use Rattle.findings.specs.Verdict.{judged, verdictOf}
+use Rattle.replays.specs.declared.Replayed.{Replayed}
+use Rattle.replays.specs.Replays.{replayed, replayOf, callsOf, processesOf, noReplay}
+use Rattle.replays.specs.Writes.{writeNumber, viewsOf, bytesOf, writeOf, bufferOf}
+use Rattle.replays.specs.OrderFile.{orderFile, WordCalls}
+use Rattle.replays.specs.Table.{Holds}
+
+-- Document 01: "replay takes at most the budget's orders; orders taken and accesses equal the counts in the history's definition". The list of
+-- calls is what the file holds up to the place.
+pub record Counted (n : ℕ) (cs : List Call) (budget : ℕ) (r : Replayed) : Type 0 where
+  pub most : length cs ≤ budget
+  pub taken : r .taken ≡ length cs
+  pub accesses : r .accesses ≡ allSteps n cs
+  pub refused : r .refused ≡ refusedCalls n cs
+  pub state : r .machine ≡ runs n cs
+
+abbrev pub EveryFileCounted : Type 0
+EveryFileCounted = (s : List ℕ) (budget : ℕ) → Counted (processesOf s) (callsOf s budget) budget (replayOf s budget)
+
+abbrev pub EveryFileHolds : Type 0
+EveryFileHolds = (s : List ℕ) (budget n : ℕ) → headerOf s ≡ Header.Of n → Holds s (replayOf s budget .place) (callsOf s budget)
+
+-- The other way, every list of calls whose values four bytes can hold is the replay of a file, with any budget that is enough.
+abbrev pub EveryListReplays : Type 0
+EveryListReplays = (n : ℕ) → 1 ≤ n → n ≤ 32 → (cs : List Call) → WordCalls cs → (budget : ℕ) → length cs ≤ budget
+    → replayOf (orderFile n cs) budget ≡ replayed n (record { answer = Whole; place = length (orderFile n cs); calls = cs })
+
+-- "After a refused header the state is a fresh machine of one process and the three counts are 0", at every budget.
+abbrev pub RefusedHeader : Type 0
+RefusedHeader = (s : List ℕ) (budget : ℕ) (a : FileAnswer) → headerOf s ≡ Header.Fault a → replayOf s budget ≡ noReplay a
+
+-- Demand 3 of a state m that a list of calls leaves of a fresh machine of n processes.
+pub record DemandThree (n : ℕ) (cs : List Call) (m : Machine) : Type 0 where
+  -- "for each x from 1 to n, at most x tasks ever reach level x"
+  pub levels : (x : ℕ) → 1 ≤ x → x ≤ n → count (reached n cs x) n ≤ x
+  -- "the lists of all finished tasks obey the three properties"
+  pub properties : Immediate (Has m) (View m) (given n cs)
+  -- "a task that finished with s tasks in its list has had exactly (n+1)(n-s+1) accepted steps, counted from the list of calls"
+  pub exact : (p : ℕ) → Has m p → acceptedSteps n cs p ≡ (n + 1) * (n - size (foundOf (stageOf m p)) + 1)
+  -- "and any task that has had n(n+1) accepted steps is finished"
+  pub enough : (p : ℕ) → 1 ≤ p → p ≤ n → n * (n + 1) ≤ acceptedSteps n cs p → finished (stageOf m p) ≡ true
+  -- document 01: the state is well shaped, so no call is refused with 1; nor is one refused with 7
+  pub shape : Meets n m
+  pub never : NeitherOneNorSeven n cs
+
+-- Demand 3 holds of the state that any file leaves, at any budget, a refused header among them.
+abbrev pub EveryFileDemandThree : Type 0
+EveryFileDemandThree = (s : List ℕ) (budget : ℕ) → DemandThree (processesOf s) (callsOf s budget) (replayOf s budget .machine)
+
+-- And the accesses that a replay answers are the accepted steps of the processes 1 to n.
+abbrev pub EveryFileAccesses : Type 0
+EveryFileAccesses = (s : List ℕ) (budget : ℕ)
+    → replayOf s budget .accesses ≡ total (acceptedSteps (processesOf s) (callsOf s budget)) (processesOf s)
+
+-- The view writer. 1, then 17, exactly if the buffer is shorter than the file; on both it answers 0 bytes and writes nothing.
+pub record WriteNumbers (m : Machine) (buffer : List ℕ) : Type 0 where
+  pub one : (writeNumber (writeOf m (length buffer) .answer) ≡ 1) ↔ (shaped m ≡ true → ⊥)
+  pub seventeen : (writeNumber (writeOf m (length buffer) .answer) ≡ 17) ↔ ((shaped m ≡ true) × (length buffer < length (bytesOf m)))
+  pub none : (writeNumber (writeOf m (length buffer) .answer) ≡ 0) ↔ ((shaped m ≡ true) × (length (bytesOf m) ≤ length buffer))
+  pub nothing : (writeNumber (writeOf m (length buffer) .answer) ≡ 0 → ⊥) → (writeOf m (length buffer) .bytes ≡ 0) × (bufferOf m buffer ≡ buffer)
+  pub written : writeNumber (writeOf m (length buffer) .answer) ≡ 0
+      → (writeOf m (length buffer) .bytes ≡ length (bytesOf m)) × (bufferOf m buffer ≡ bytesOf m ++ drop (length (bytesOf m)) buffer)
+
+abbrev pub EveryWriteNumbered : Type 0
+EveryWriteNumbered = (m : Machine) (buffer : List ℕ) → WriteNumbers m buffer
+
+-- What the writer writes of a process is what a look at it shows.
+pub record AsLooked (m : Machine) (i : ℕ) : Type 0 where
+  pub has-view : (owns (viewsOf m) i ≡ true) ↔ (lookOf m i .standing ≡ Standing.Finished)
+  pub set : seenBy (viewsOf m) i ≡ lookOf m i .view
+  pub values : (j : ℕ) → 1 ≤ j → j ≤ 32 → valueBy (viewsOf m) i j ≡ getD (lookOf m i .values) (j - 1) 0
+
+abbrev pub EveryViewLooked : Type 0
+EveryViewLooked = (m : Machine) → shaped m ≡ true → (i : ℕ) → 1 ≤ i → i ≤ m .n → AsLooked m i
+
+-- "A written view file reads back as the same views": of every well shaped machine that the declared types hold.
+abbrev pub WrittenReadsBack : Type 0
+WrittenReadsBack = (m : Machine) → Held m → Words m → shaped m ≡ true → readOf (bytesOf m) ≡ readWhole (bytesOf m) (viewsOf m)
+
+-- and what is written is bytes
+abbrev pub WritesBytes : Type 0
+WritesBytes = (m : Machine) → Held m → Words m → shaped m ≡ true → Bytes (bytesOf m)
+
+-- The checker accepts what is written of a state that a run leaves, and so does the verdict of the written file.
+pub record Accepted (m : Machine) : Type 0 where
+  pub checked : checkOf (viewsOf m) ≡ found Finding.Nothing 0 0
+  pub verdict : verdictOf (bytesOf m) ≡ judged (length (bytesOf m)) (found Finding.Nothing 0 0)
+
+abbrev pub EveryRunAccepted : Type 0
+EveryRunAccepted = OfEveryRun λ n cs. Words (runs n cs) → Accepted (runs n cs)
+
+-- so of every state that an order file leaves
+abbrev pub EveryFileAccepted : Type 0
+EveryFileAccepted = (s : List ℕ) → Bytes s → (budget : ℕ) → Accepted (replayOf s budget .machine)

@@ -1,0 +1,4 @@
+-- Laws of parts one after another, of decimal digits and of stored bytes.
+pub mod Parts
+pub mod Decimal
+pub mod Stores
