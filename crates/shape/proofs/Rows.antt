@@ -21,7 +21,7 @@ use Rattle.rules.specs.declared.Process.{Process}
 use Rattle.rules.specs.declared.Machine.{Machine}
 use Rattle.rules.specs.State.{nobody, processOf, stageOf, valueOf, rowOf, cellOf, entered, wrote}
 use Rattle.rules.specs.Shape.{goes, ends, shapedStage, shapedProcess, shapedRecords, shapedRegister, shapedRegisters, shaped}
-use Rattle.shape.specs.Columns.{LowestRows, lowsOf, ownsOf, cellGood, cellsGood, rowGood, rowsGood, ByRow, writersOf, lowestAt, lowestRow}
+use Rattle.shape.specs.Coded.Columns.{LowestRows, lowsOf, ownsOf, cellGood, cellsGood, rowGood, rowsGood, ByRow, writersOf, lowestAt, lowestRow}
 use Rattle.shape.proofs.Arrays.{back-one}
 
 -- ---- sorting by lowest row

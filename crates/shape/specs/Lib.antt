@@ -1,2 +1,2 @@
 -- What the shape test computes on its way.
-pub mod Columns
+pub mod Coded

@@ -9,7 +9,7 @@ ghost use Rattle.sets.specs.Sets.{first, within};
 ghost use Rattle.rules.specs.Shape.{goes, ends, shapedStage, shapedProcess, shaped};
 ghost use Rattle.rules.specs.State.{rowIn, entered};
 ghost use lib.Dec.{leb};
-ghost use Rattle.shape.specs.Columns.{lowestAt, lowestRow, LowestRows, cellsGood, ByRow, ReadOff, writersOf, rowGood, rowsGood};
+ghost use Rattle.shape.specs.Coded.Columns.{lowestAt, lowestRow, LowestRows, cellsGood, ByRow, ReadOff, writersOf, rowGood, rowsGood};
 
 // What one pass over the records gives. The bool is last, so that the arrays stay aligned.
 struct Columns {

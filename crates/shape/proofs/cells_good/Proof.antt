@@ -7,7 +7,7 @@ use lib.ListN.{getD}
 use denote.Ref.{now}
 use native.Mathlib.Omega.{arith}
 use Rattle.sets.specs.Sets.{every}
-use Rattle.shape.specs.Columns.{cellGood, cellsGood}
+use Rattle.shape.specs.Coded.Columns.{cellGood, cellsGood}
 use Rattle.shape.proofs.Arrays.{every-place}
 use Rattle.shape.proofs.cells_good.Statement.{statement}
 use Rattle.shape.proofs.cells_good.Tie as tie

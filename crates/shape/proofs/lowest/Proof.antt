@@ -1,6 +1,6 @@
 -- `lowest` meets its contract: each arm is given that the stage is its constructor.
 use mathlib.Core.Path.{_∙_, sym, ap}
-use Rattle.shape.specs.Columns.{lowestRow}
+use Rattle.shape.specs.Coded.Columns.{lowestRow}
 use borrow.Author.Needs.{needs}
 use Rattle.shape.proofs.lowest.Statement.{statement}
 use Rattle.shape.proofs.lowest.Tie as tie

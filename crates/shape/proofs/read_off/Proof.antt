@@ -11,7 +11,7 @@ use Rattle.sets.specs.Sets.{every}
 use Rattle.rules.specs.declared.Process.{Process}
 use Rattle.rules.specs.State.{nobody, rowIn}
 use Rattle.rules.specs.Shape.{shapedProcess}
-use Rattle.shape.specs.Columns.{lowestRow, lowsOf, ByRow}
+use Rattle.shape.specs.Coded.Columns.{lowestRow, lowsOf, ByRow}
 use Rattle.shape.proofs.Arrays.{Upto, upto-none, upto-more, upto-map, getD-zeros, every-place}
 use Rattle.shape.proofs.Rows.{by-row-none, by-row-more, lowest-high, getD-map-in}
 use Rattle.shape.proofs.read_off.Statement.{statement}

@@ -7,7 +7,7 @@ use lib.ListN.{getD}
 use denote.Ref.{now}
 use Rattle.sets.specs.Sets.{every}
 use Rattle.rules.specs.State.{rowIn}
-use Rattle.shape.specs.Columns.{writersOf, rowGood, rowsGood}
+use Rattle.shape.specs.Coded.Columns.{writersOf, rowGood, rowsGood}
 use Rattle.shape.proofs.Arrays.{every-place}
 use Rattle.shape.proofs.Rows.{writers-none, writers-more}
 use Rattle.shape.proofs.rows_good.Statement.{statement}

@@ -7,7 +7,7 @@ use lib.ListN.{length}
 use denote.Ref.{now}
 use Rattle.rules.specs.declared.Machine.{Machine}
 use Rattle.rules.specs.Shape.{shaped, shapedRecords}
-use Rattle.shape.specs.Columns.{rowsGood}
+use Rattle.shape.specs.Coded.Columns.{rowsGood}
 use Rattle.shape.proofs.Rows.{low-high, low-low, rows-shaped, shaped-rest}
 use borrow.Author.Needs.{needs}
 use Rattle.shape.proofs.shaped.Statement.{statement}
