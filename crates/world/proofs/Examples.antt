@@ -1,0 +1,22 @@
+-- The example of a world, computed.
+use mathlib.Core.Path.{refl}
+use Rattle.world.specs.Calls.{leaves, counts, deposits}
+use Rattle.world.specs.Examples.{Computed}
+
+pub computed : Computed
+unfolding leaves counts deposits
+computed =
+    record {
+      one-holds = refl;
+      two-holds = refl;
+      none-holds = refl;
+      two-returns = refl;
+      one-halts = refl;
+      one-stepped = refl;
+      two-stepped = refl;
+      refused = refl;
+      one-deposits = refl;
+      nobody-deposits = refl;
+      has-entered = refl;
+      has-not-entered = refl;
+    }

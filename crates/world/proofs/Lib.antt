@@ -1,0 +1,4 @@
+-- Laws of lists of calls, of two takers of which one follows the other, and of worlds.
+pub mod Laws
+pub mod Follows
+pub mod Examples
