@@ -14,8 +14,8 @@ use Rattle.text.specs.Parts.{joined}
 use Rattle.findings.specs.declared.Finding.{Finding}
 use Rattle.findings.specs.declared.Finding.the-variants.{Nothing, LacksItself, Apart, Unlike, Disagree}
 use Rattle.findings.specs.declared.Found.{Found}
-use Rattle.findings.specs.Findings.{found, isFinding, only, View, viewOf, disagree, apart, unlike, breaks}
-use Rattle.findings.specs.Findings.{ofOne, ofPair, ofAll, ofPairs, findings, firstBreak, firstOf, checkOf}
+use Rattle.findings.specs.Findings.{found, isFinding, only, View, viewIn, disagree, apart, unlike, breaks}
+use Rattle.findings.specs.Findings.{ofOne, ofPair, ofOnes, ofPairs, findings, firstBreak, firstOf, checkOf}
 use Rattle.findings.specs.Properties.{Has, FirstAlone, FirstPair, YesIsNoFinding, NoViewsAccepted, NamesTheFirst}
 use Rattle.findings.proofs.First.{Real, real-append, real-joined, real-ofOne, real-ofPair, real-ofPairs, first-here, first-later, none-first}
 use Rattle.findings.proofs.Accepts.{joined-parts, joined-empty, pair-empty, empty-pair, one-has, has-one, not-found}
@@ -23,7 +23,7 @@ use Rattle.findings.proofs.Accepts.{joined-parts, joined-empty, pair-em
 pub real-findings : (v : Views) → Real (findings v)
 unfolding findings
 real-findings v =
-    real-append (ofAll v) (joined 1 32 (ofPairs v)) (real-joined 1 32 (ofOne v) (real-ofOne v)) (real-joined 1 32 (ofPairs v) (real-ofPairs v))
+    real-append (ofOnes v) (joined 1 32 (ofPairs v)) (real-joined 1 32 (ofOne v) (real-ofOne v)) (real-joined 1 32 (ofPairs v) (real-ofPairs v))
 
 pub yes-is-no-finding : YesIsNoFinding
 unfolding checkOf
@@ -114,7 +114,7 @@ finding-pair true [] i j k o e t = absurd (false≢true (ap isFinding e ∙ t))
 finding-pair false ks i j k o e t = absurd (false≢true o)
 
 -- From the answer to the break.
-alone-first : (v : Views) (k : Finding) (i j : ℕ) → isFinding k ≡ true → firstOf (ofAll v) ≡ found k i j → (k ≡ LacksItself) × (j ≡ 0) × FirstAlone v i
+alone-first : (v : Views) (k : Finding) (i j : ℕ) → isFinding k ≡ true → firstOf (ofOnes v) ≡ found k i j → (k ≡ LacksItself) × (j ≡ 0) × FirstAlone v i
 unfolding ofOne
 alone-first v k i j t e =
     let s : At 1 32 (ofOne v) (found k i j) = found-at 1 32 (ofOne v) (real-ofOne v) (found k i j) t e in
@@ -126,7 +126,7 @@ alone-first v k i j t e =
     = λ x l o. one-has v x (s .before x (has-known (v .own) x o .0) (omega (arith, p .3))) o in
     (p .2, p .4, record { owner = own; missing = gone; before = before })
 
-pairs-first : (v : Views) (k : Finding) (i j : ℕ) → isFinding k ≡ true → ofAll v ≡ []
+pairs-first : (v : Views) (k : Finding) (i j : ℕ) → isFinding k ≡ true → ofOnes v ≡ []
     → firstOf (joined 1 32 (ofPairs v)) ≡ found k i j → FirstPair v k i j
 unfolding ofPair
 pairs-first v k i j t none e =
@@ -134,19 +134,19 @@ pairs-first v k i j t none e =
     let g : ℕ = s .index in
     let u : At (suc g) (32 - g) (ofPair v g) (found k i j) = found-at (suc g) (32 - g) (ofPair v g) (real-ofPair v g) (found k i j) t (s .here) in
     let h : ℕ = u .index in
-    let p = pair-finding (owns v g && owns v h) (breaks (viewOf v g) (viewOf v h) g h) g h i j k t (u .here) in
+    let p = pair-finding (owns v g && owns v h) (breaks (viewIn v g) (viewIn v h) g h) g h i j k t (u .here) in
     let o = and-eq-true-iff (owns v g) (owns v h) .0 (p .0) in
     let eg : g ≡ i = p .2 in
     let eh : h ≡ j = p .3 in
-    let first : firstBreak (breaks (viewOf v i) (viewOf v j) i j) ≡ k
-    = subst (λ (y : ℕ). firstBreak (breaks (viewOf v i) (viewOf v y) i y) ≡ k) eh
-    (subst (λ (x : ℕ). firstBreak (breaks (viewOf v x) (viewOf v h) x h) ≡ k) eg (p .1)) in
+    let first : firstBreak (breaks (viewIn v i) (viewIn v j) i j) ≡ k
+    = subst (λ (y : ℕ). firstBreak (breaks (viewIn v i) (viewIn v y) i y) ≡ k) eh
+    (subst (λ (x : ℕ). firstBreak (breaks (viewIn v x) (viewIn v h) x h) ≡ k) eg (p .1)) in
     record {
       selves = λ x ox. let q = has-known (v .own) x ox in one-has v x (joined-parts 1 32 (ofOne v) none x (q .0) (omega arith)) ox;
       owner = subst (λ (x : ℕ). Has v x) eg (o .0);
       other = subst (λ (x : ℕ). Has v x) eh (o .1);
       order = omega (arith, u .low, eg, eh);
-      number = sym (first-number (viewOf v i) (viewOf v j) i j) ∙ first;
+      number = sym (first-number (viewIn v i) (viewIn v j) i j) ∙ first;
       finding = t;
       before = λ a b order l oa ob.
           let qa = has-known (v .own) a oa in
@@ -167,10 +167,10 @@ alone-answers v i f =
     let b : (owns v i && not (has (seenBy v i) i)) ≡ true = ap₂ (λ (x y : Bool). x && not y) (f .owner) (f .missing) in
     let here : firstOf (ofOne v i) ≡ found LacksItself i 0 = ap (λ (x : Bool). firstOf (map (λ k. found k i 0) (only x LacksItself))) b in
     let t : isFinding (firstOf (ofOne v i) .finding) ≡ true = ap (λ (x : Found). isFinding (x .finding)) here in
-    let all : firstOf (ofAll v) ≡ firstOf (ofOne v i)
+    let all : firstOf (ofOnes v) ≡ firstOf (ofOne v i)
     = at-found 1 32 (ofOne v) i (q .0) (omega arith) t (λ h l m. has-one v h (f .before h m)) in
-    let first : firstOf (ofAll v) ≡ found LacksItself i 0 = all ∙ here in
-    first-here (ofAll v) (joined 1 32 (ofPairs v)) (ap (λ (x : Found). isFinding (x .finding)) first) ∙ first
+    let first : firstOf (ofOnes v) ≡ found LacksItself i 0 = all ∙ here in
+    first-here (ofOnes v) (joined 1 32 (ofPairs v)) (ap (λ (x : Found). isFinding (x .finding)) first) ∙ first
 
 pair-answers : (v : Views) (k : Finding) (i j : ℕ) → FirstPair v k i j → checkOf v ≡ found k i j
 unfolding checkOf findings ofPair
@@ -180,8 +180,8 @@ pair-answers v k i j f =
     let ofReal : (x : Found) → x ≡ found k i j → isFinding (x .finding) ≡ true
     = λ x e. ap (λ (y : Found). isFinding (y .finding)) e ∙ f .finding in
     let here : firstOf (ofPair v i j) ≡ found k i j
-    = finding-pair (owns v i && owns v j) (breaks (viewOf v i) (viewOf v j) i j) i j k (ap₂ _&&_ (f .owner) (f .other))
-    (first-number (viewOf v i) (viewOf v j) i j ∙ f .number) (f .finding) in
+    = finding-pair (owns v i && owns v j) (breaks (viewIn v i) (viewIn v j) i j) i j k (ap₂ _&&_ (f .owner) (f .other))
+    (first-number (viewIn v i) (viewIn v j) i j ∙ f .number) (f .finding) in
     let row : firstOf (ofPairs v i) ≡ found k i j
     = at-found (suc i) (32 - i) (ofPair v i) j (f .order) (omega (arith, f .order)) (ofReal (firstOf (ofPair v i j)) here)
     (λ h l m. empty-pair v i h (f .before i h (inr (refl, m)) l))
@@ -190,7 +190,7 @@ pair-answers v k i j f =
     = at-found 1 32 (ofPairs v) i (q .0) (omega arith) (ofReal (firstOf (ofPairs v i)) row)
     (λ g l m. joined-empty (suc g) (32 - g) (ofPair v g) (λ h a b. empty-pair v g h (f .before g h (inl m) a)))
     ∙ row in
-    let none : ofAll v ≡ [] = joined-empty 1 32 (ofOne v) (λ h l m. has-one v h (f .selves h)) in
+    let none : ofOnes v ≡ [] = joined-empty 1 32 (ofOne v) (λ h l m. has-one v h (f .selves h)) in
     ap (λ l. firstOf (l ++ joined 1 32 (ofPairs v))) none ∙ all
 
 answered : (v : Views) (k : Finding) (i j : ℕ) → isFinding k ≡ true → checkOf v ≡ found k i j
@@ -198,10 +198,10 @@ answered : (v : Views) (k : Finding) (i j : ℕ) → isFinding k ≡ true → ch
 unfolding checkOf findings
 answered v k i j t e =
     ⊎-elim
-    (λ q. inl (alone-first v k i j t (sym (first-here (ofAll v) (joined 1 32 (ofPairs v)) q) ∙ e)))
-    (λ q. let none : ofAll v ≡ [] = none-first (ofAll v) (real-joined 1 32 (ofOne v) (real-ofOne v)) q in
+    (λ q. inl (alone-first v k i j t (sym (first-here (ofOnes v) (joined 1 32 (ofPairs v)) q) ∙ e)))
+    (λ q. let none : ofOnes v ≡ [] = none-first (ofOnes v) (real-joined 1 32 (ofOne v) (real-ofOne v)) q in
     inr (pairs-first v k i j t none (sym (ap (λ l. firstOf (l ++ joined 1 32 (ofPairs v))) none) ∙ e)))
-    (either (isFinding (firstOf (ofAll v) .finding)))
+    (either (isFinding (firstOf (ofOnes v) .finding)))
 
 pub names-the-first : NamesTheFirst
 names-the-first v k i j t = (

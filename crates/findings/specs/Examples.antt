@@ -12,7 +12,7 @@ use Rattle.formats.specs.ViewFile.{readOf}
 use Rattle.formats.specs.Examples.{MN, VW}
 use Rattle.findings.specs.declared.FileVerdict.{FileVerdict}
 use Rattle.findings.specs.declared.Found.{Found}
-use Rattle.findings.specs.Findings.{ofPair, ofAll}
+use Rattle.findings.specs.Findings.{ofPair, ofOnes}
 use Rattle.findings.specs.Verdict.{verdictOf}
 
 pub record Example : Type 0 where
@@ -78,7 +78,7 @@ ExamplesHold = hold examples ≡ true
 
 -- Document 01's error "Comparing a view only with the next process's view: P9 passes": of the pairs (i, i + 1) alone nothing is found.
 abbrev nextOnly : Views → List Found
-nextOnly v = ofAll v ++ joined 1 32 (λ i. ofPair v i (suc i))
+nextOnly v = ofOnes v ++ joined 1 32 (λ i. ofPair v i (suc i))
 
 abbrev pub P9PassesByNeighbours : Type 0
 P9PassesByNeighbours = nextOnly (readOf p9 .views) ≡ []

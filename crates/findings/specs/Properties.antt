@@ -13,7 +13,7 @@ use Rattle.formats.specs.Views.{owns, seenBy, valueBy, noneOf}
 use Rattle.formats.specs.ViewFile.{readOf}
 use Rattle.findings.specs.declared.Finding.{Finding}
 use Rattle.findings.specs.declared.Finding.the-variants.{Nothing, LacksItself, Apart, Unlike, Disagree}
-use Rattle.findings.specs.Findings.{found, isFinding, viewOf, disagree, apart, unlike, breaks, findings, checkOf}
+use Rattle.findings.specs.Findings.{found, isFinding, viewIn, disagree, apart, unlike, breaks, findings, checkOf}
 use Rattle.findings.specs.Verdict.{judged, unread, verdictOf}
 
 -- process i has a view
@@ -26,12 +26,12 @@ pub record Pair (v : Views) (i j x : ℕ) : Type 0 where
   pub holds : valueBy v i j ≡ x
 
 -- What i deposited is its value in its own view. Of a process that has no view the properties ask nothing.
-abbrev pub given : Views → ℕ → ℕ
-given v i = valueBy v i i
+abbrev pub ownValue : Views → ℕ → ℕ
+ownValue v i = valueBy v i i
 
 -- self-inclusion, containment and simultaneity
 abbrev pub Obeys : Views → Type 0
-Obeys v = Immediate (Has v) (Pair v) (given v)
+Obeys v = Immediate (Has v) (Pair v) (ownValue v)
 
 -- "The view checker says yes exactly when self-inclusion, containment and simultaneity hold": of any views, in range or not
 abbrev pub AcceptsExactly : Type 0
@@ -48,7 +48,7 @@ pub record NoViewsAccepted : Type 0 where
 
 -- "A view is a set of (process, value) pairs, so 23 is a break of containment": of two views that disagree neither is inside the other.
 abbrev pub DisagreeIsApart : Type 0
-DisagreeIsApart = (v : Views) (i j : ℕ) → disagree (viewOf v i) (viewOf v j) ≡ true
+DisagreeIsApart = (v : Views) (i j : ℕ) → disagree (viewIn v i) (viewIn v j) ≡ true
     → (Inside (Pair v i) (Pair v j) → ⊥) × (Inside (Pair v j) (Pair v i) → ⊥)
 
 -- "and otherwise names the first break in the fixed order". First 20: i is the lowest process whose view lacks it.
@@ -67,10 +67,10 @@ pub record FirstPair (v : Views) (k : Finding) (i j : ℕ) : Type 0 where
   pub owner : Has v i
   pub other : Has v j
   pub order : i < j
-  pub number : cond (disagree (viewOf v i) (viewOf v j)) Disagree
-      (cond (apart (viewOf v i) (viewOf v j)) Apart (cond (unlike (viewOf v i) (viewOf v j) i j) Unlike Nothing)) ≡ k
+  pub number : cond (disagree (viewIn v i) (viewIn v j)) Disagree
+      (cond (apart (viewIn v i) (viewIn v j)) Apart (cond (unlike (viewIn v i) (viewIn v j) i j) Unlike Nothing)) ≡ k
   pub finding : isFinding k ≡ true
-  pub before : (g h : ℕ) → Before g h i j → g < h → Has v g → Has v h → breaks (viewOf v g) (viewOf v h) g h ≡ []
+  pub before : (g h : ℕ) → Before g h i j → g < h → Has v g → Has v h → breaks (viewIn v g) (viewIn v h) g h ≡ []
 
 abbrev pub NamesTheFirst : Type 0
 NamesTheFirst = (v : Views) (k : Finding) (i j : ℕ) → isFinding k ≡ true
