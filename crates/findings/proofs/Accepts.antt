@@ -20,7 +20,7 @@ use Rattle.findings.specs.declared.Finding.the-variants.{LacksItself, Ap
 use Rattle.findings.specs.declared.Found.{Found}
 use Rattle.findings.specs.Findings.{found, only, View, viewIn, sameAt, agree, insideAt, inside, facing, breaks}
 use Rattle.findings.specs.Findings.{ofOne, ofPair, ofOnes, ofPairs, findings}
-use Rattle.findings.specs.Properties.{Has, Pair, Obeys, AcceptsExactly, DisagreeIsApart}
+use Rattle.findings.specs.Properties.{Has, Pair, Obeys, AcceptsExactly}
 use Rattle.findings.proofs.Agreement.{agree-swapped}
 
 -- Parts of an empty list are empty, and empty parts make an empty list.
@@ -196,7 +196,7 @@ agree-at true true p q e h k = eqb-true p q e
 agree-at true false p q e h k = absurd (false≢true k)
 agree-at false b p q e h k = absurd (false≢true h)
 
-same-value : (x y : View) (k : ℕ) → agree x y ≡ true → has (x .set) k ≡ true → has (y .set) k ≡ true → x .value k ≡ y .value k
+pub same-value : (x y : View) (k : ℕ) → agree x y ≡ true → has (x .set) k ≡ true → has (y .set) k ≡ true → x .value k ≡ y .value k
 unfolding agree
 same-value x y k e a b =
     let h = has-known (x .set) k a in
@@ -238,19 +238,13 @@ obeys v f =
       simultaneity = λ i j a b p q. obeys-alike v f i j a b (p .named) (q .named) (order i j);
     }
 
--- 23 is a break of containment: nested views agree.
+-- Nested views agree.
 nested-agrees : (v : Views) (i j : ℕ) → Inside (Pair v i) (Pair v j) ⊎ Inside (Pair v j) (Pair v i) → agree (viewIn v i) (viewIn v j) ≡ true
 nested-agrees v i j n =
     ⊎-elim
     (λ s. inside-agrees (viewIn v i) (viewIn v j) (inside-is v i j s))
     (λ s. agree-swapped (viewIn v j) (viewIn v i) (inside-agrees (viewIn v j) (viewIn v i) (inside-is v j i s)))
     n
-
-pub disagree-is-apart : DisagreeIsApart
-disagree-is-apart v i j d = (λ s. never (nested-agrees v i j (inl s)), λ s. never (nested-agrees v i j (inr s)))
-  where
-    never : agree (viewIn v i) (viewIn v j) ≡ true → ⊥
-    never t = false≢true (sym (ap not t) ∙ d)
 
 pub obeyed : (v : Views) → Obeys v → Fine v
 obeyed v o =
