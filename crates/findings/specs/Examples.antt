@@ -50,6 +50,7 @@ examples =
     ∷ whole (MN 5 ++ VW 3 4 ++ val 0) 0 0 0
     -- 20: an empty view, and one without its own process, the lowest first, before any pair
     ∷ whole (MN 5 ++ VW 3 0) 20 3 0
+    ∷ whole (MN 5 ++ VW 1 2 ++ val 2) 20 1 0
     ∷ whole (MN 5 ++ VW 5 1 ++ val 1 ++ VW 3 2 ++ val 2 ++ VW 1 1 ++ val 3) 20 3 0
     -- 23 of a process that both name and that has no view of its own, before 21 of the same pair
     ∷ whole (MN 5 ++ VW 1 5 ++ val 1 ++ val 7 ++ VW 2 6 ++ val 2 ++ val 8) 23 1 2
