@@ -13,7 +13,7 @@ use Rattle.text.specs.Parts.{joined}
 use Rattle.findings.specs.declared.Finding.{Finding}
 use Rattle.findings.specs.declared.Finding.the-variants.{Nothing, LacksItself}
 use Rattle.findings.specs.declared.Found.{Found}
-use Rattle.findings.specs.Findings.{isFinding, found, only, view, viewOf, breaks, ofOne, ofPair, ofPairs, firstBreak, firstOf}
+use Rattle.findings.specs.Findings.{isFinding, found, only, view, viewIn, breaks, ofOne, ofPair, ofPairs, firstBreak, firstOf}
 use Rattle.text.proofs.Parts.{joined-next, joined-none}
 use Rattle.findings.proofs.First.{break-here, no-breaks}
 
@@ -56,9 +56,9 @@ module _ (v : Views) (i j : ℕ) (o : owns v i ≡ true) where
   pair-at : owns v (j + 1) ≡ true → ofPair v i (j + 1) ≡ map (λ k. found k i (j + 1)) (broken v i j)
   unfolding ofPair
   pair-at e =
-      ap (λ (b : Bool). cond (b && owns v (j + 1)) (map (λ k. found k i (j + 1)) (breaks (viewOf v i) (viewOf v (j + 1)) i (j + 1))) []) o
-      ∙ ap (λ (b : Bool). cond b (map (λ k. found k i (j + 1)) (breaks (viewOf v i) (viewOf v (j + 1)) i (j + 1))) []) e
-      ∙ ap (λ (w : ℕ). map (λ k. found k i (j + 1)) (breaks (viewOf v i) (view w (v .values) (j + 1)) i (j + 1))) (seen-at v j)
+      ap (λ (b : Bool). cond (b && owns v (j + 1)) (map (λ k. found k i (j + 1)) (breaks (viewIn v i) (viewIn v (j + 1)) i (j + 1))) []) o
+      ∙ ap (λ (b : Bool). cond b (map (λ k. found k i (j + 1)) (breaks (viewIn v i) (viewIn v (j + 1)) i (j + 1))) []) e
+      ∙ ap (λ (w : ℕ). map (λ k. found k i (j + 1)) (breaks (viewIn v i) (view w (v .values) (j + 1)) i (j + 1))) (seen-at v j)
 
   pub pair-here : j < 32 → owns v (j + 1) ≡ true
       → (k : Finding) → k ≡ firstBreak (broken v i j) → isFinding k ≡ true
@@ -80,8 +80,8 @@ module _ (v : Views) (i j : ℕ) (o : owns v i ≡ true) where
   unfolding ofPair
   pair-skipped h e =
       let none : ofPair v i (j + 1) ≡ []
-      = ap (λ (b : Bool). cond (b && owns v (j + 1)) (map (λ k. found k i (j + 1)) (breaks (viewOf v i) (viewOf v (j + 1)) i (j + 1))) []) o
-      ∙ ap (λ (b : Bool). cond b (map (λ k. found k i (j + 1)) (breaks (viewOf v i) (viewOf v (j + 1)) i (j + 1))) []) e in
+      = ap (λ (b : Bool). cond (b && owns v (j + 1)) (map (λ k. found k i (j + 1)) (breaks (viewIn v i) (viewIn v (j + 1)) i (j + 1))) []) o
+      ∙ ap (λ (b : Bool). cond b (map (λ k. found k i (j + 1)) (breaks (viewIn v i) (viewIn v (j + 1)) i (j + 1))) []) e in
       next-of (ofPair v i) j [] h none
 
 -- a process that has no view is in no pair
@@ -89,4 +89,4 @@ pub no-pairs : (v : Views) (i : ℕ) → owns v i ≡ false → firstOf (ofPairs
 unfolding ofPair
 no-pairs v i e =
     ap firstOf (joined-none (suc i) (32 - i) (ofPair v i)
-    (λ j. ap (λ (b : Bool). cond (b && owns v j) (map (λ k. found k i j) (breaks (viewOf v i) (viewOf v j) i j)) []) e))
+    (λ j. ap (λ (b : Bool). cond (b && owns v j) (map (λ k. found k i j) (breaks (viewIn v i) (viewIn v j) i j)) []) e))

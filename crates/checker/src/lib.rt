@@ -6,7 +6,7 @@ ghost use mathlib.Core.List.{_++_};
 ghost use Rattle.sets.specs.Sets.{has};
 ghost use Rattle.text.specs.Parts.{joined};
 ghost use Rattle.findings.specs.Findings.{isFinding, findingNumber, found, only, view, agree, breaks};
-ghost use Rattle.findings.specs.Findings.{ofAll, ofPairs, firstBreak, firstOf, checkOf};
+ghost use Rattle.findings.specs.Findings.{ofOnes, ofPairs, firstBreak, firstOf, checkOf};
 ghost use Rattle.findings.specs.Verdict.{verdictOf};
 use findings::FileVerdict;
 use findings::Finding;
@@ -125,7 +125,7 @@ fn lacks(own: u32, w: u32, i: u32) -> bool
 
 // 20, for the lowest process that has such a view.
 fn first_alone(v: Views) -> Found
-    ensures { λ r. ⌜ r ≡ firstOf (ofAll v) ⌝ }
+    ensures { λ r. ⌜ r ≡ firstOf (ofOnes v) ⌝ }
 {
     let own = v.own;
     let mut i: u32 = 0;

@@ -14,8 +14,8 @@ use Rattle.formats.specs.Views.{cell, noneOf}
 use Rattle.findings.specs.Findings.{findingNumber, checkOf}
 
 -- a view as it is written in document 01: a process and its pairs
-pub data Given : Type 0 where
-  _sees_ : ℕ → List Seen → Given
+pub data WrittenView : Type 0 where
+  _sees_ : ℕ → List Seen → WrittenView
 
 infix 85 _sees_
 -- the views with the pair of j and x in i's
@@ -31,7 +31,7 @@ unfoldable pub withPairs : Views → ℕ → List Seen → Views
 withPairs v i [] = v
 withPairs v i (s ∷ ss) = withPairs (withPair v i s) i ss
 
-unfoldable pub withViews : Views → List Given → Views
+unfoldable pub withViews : Views → List WrittenView → Views
 withViews v [] = v
 withViews v (i sees ss ∷ gs) = withViews (withPairs v i ss) gs
 
@@ -39,7 +39,7 @@ pub data Row : Type 0 where
   -- a run of the machine passes
   runs : Runs.Row → Row
   -- of n processes with these views the checker finds this number for i and j
-  finds : (n : ℕ) → List Given → (number i j : ℕ) → Row
+  finds : (n : ℕ) → List WrittenView → (number i j : ℕ) → Row
 
 abbrev pub passes : Row → Bool
 passes (runs r) = runPasses r

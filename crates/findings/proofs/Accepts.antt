@@ -18,9 +18,9 @@ use Rattle.text.specs.Parts.{joined}
 use Rattle.findings.specs.declared.Finding.{Finding}
 use Rattle.findings.specs.declared.Finding.the-variants.{LacksItself, Apart, Unlike, Disagree}
 use Rattle.findings.specs.declared.Found.{Found}
-use Rattle.findings.specs.Findings.{found, only, View, viewOf, sameAt, agree, insideAt, inside, facing, breaks}
-use Rattle.findings.specs.Findings.{ofOne, ofPair, ofAll, ofPairs, findings}
-use Rattle.findings.specs.Properties.{Has, Pair, Obeys, AcceptsExactly, DisagreeIsApart}
+use Rattle.findings.specs.Findings.{found, only, View, viewIn, sameAt, agree, insideAt, inside, facing, breaks}
+use Rattle.findings.specs.Findings.{ofOne, ofPair, ofOnes, ofPairs, findings}
+use Rattle.findings.specs.Properties.{Has, Pair, Obeys, AcceptsExactly}
 use Rattle.findings.proofs.Agreement.{agree-swapped}
 
 -- Parts of an empty list are empty, and empty parts make an empty list.
@@ -99,19 +99,19 @@ map-empty : {A B : Type 0} (f : A → B) (l : List A) → map f l ≡ [] → l �
 map-empty f [] e = refl
 map-empty f (x ∷ xs) e = let z : _≡_ {A = ℕ} 0 1 = cc in absurd (omega arith)
 
-pub pair-empty : (v : Views) (i j : ℕ) → Has v i → Has v j → ofPair v i j ≡ [] → breaks (viewOf v i) (viewOf v j) i j ≡ []
+pub pair-empty : (v : Views) (i j : ℕ) → Has v i → Has v j → ofPair v i j ≡ [] → breaks (viewIn v i) (viewIn v j) i j ≡ []
 unfolding ofPair
 pair-empty v i j a b e =
     let both : (owns v i && owns v j) ≡ true = ap₂ _&&_ a b in
     let m : Finding → Found = λ k. found k i j in
-    map-empty m (breaks (viewOf v i) (viewOf v j) i j)
-    (sym (ap (λ (t : Bool). cond t (map m (breaks (viewOf v i) (viewOf v j) i j)) []) both) ∙ e)
+    map-empty m (breaks (viewIn v i) (viewIn v j) i j)
+    (sym (ap (λ (t : Bool). cond t (map m (breaks (viewIn v i) (viewIn v j) i j)) []) both) ∙ e)
 
-pub empty-pair : (v : Views) (i j : ℕ) → (Has v i → Has v j → breaks (viewOf v i) (viewOf v j) i j ≡ []) → ofPair v i j ≡ []
+pub empty-pair : (v : Views) (i j : ℕ) → (Has v i → Has v j → breaks (viewIn v i) (viewIn v j) i j ≡ []) → ofPair v i j ≡ []
 unfolding ofPair
 empty-pair v i j h =
     let m : Finding → Found = λ k. found k i j in
-    let l = breaks (viewOf v i) (viewOf v j) i j in
+    let l = breaks (viewIn v i) (viewIn v j) i j in
     ⊎-elim
     (λ e. let t = and-eq-true-iff (owns v i) (owns v j) .0 e in
     ap (λ (b : Bool). cond b (map m l) []) e ∙ ap (map m) (h (t .0) (t .1)))
@@ -129,20 +129,20 @@ has-one v i h = empty-one (owns v i) (has (seenBy v i) i) i h
 -- No finding, said of each process and of each pair.
 pub record Fine (v : Views) : Type 0 where
   pub selves : (i : ℕ) → Has v i → has (seenBy v i) i ≡ true
-  pub pairs : (i j : ℕ) → i < j → Has v i → Has v j → Clean (viewOf v i) (viewOf v j) i j
+  pub pairs : (i j : ℕ) → i < j → Has v i → Has v j → Clean (viewIn v i) (viewIn v j) i j
 
 pub fine : (v : Views) → findings v ≡ [] → Fine v
 unfolding findings
 fine v e =
-    let ones : ofAll v ≡ [] = empty-left (ofAll v) (joined 1 32 (ofPairs v)) e in
-    let twos : joined 1 32 (ofPairs v) ≡ [] = empty-right (ofAll v) (joined 1 32 (ofPairs v)) e in
+    let ones : ofOnes v ≡ [] = empty-left (ofOnes v) (joined 1 32 (ofPairs v)) e in
+    let twos : joined 1 32 (ofPairs v) ≡ [] = empty-right (ofOnes v) (joined 1 32 (ofPairs v)) e in
     record {
       selves = λ i o. let k = has-known (v .own) i o in one-has v i (joined-parts 1 32 (ofOne v) ones i (k .0) (omega arith)) o;
       pairs = λ i j l a b.
           let k = has-known (v .own) i a in
           let h = has-known (v .own) j b in
           let row : ofPairs v i ≡ [] = joined-parts 1 32 (ofPairs v) twos i (k .0) (omega arith) in
-          clean (viewOf v i) (viewOf v j) i j (pair-empty v i j a b (joined-parts (suc i) (32 - i) (ofPair v i) row j l (omega arith)));
+          clean (viewIn v i) (viewIn v j) i j (pair-empty v i j a b (joined-parts (suc i) (32 - i) (ofPair v i) row j l (omega arith)));
     }
 
 pub not-found : (v : Views) → Fine v → findings v ≡ []
@@ -151,7 +151,7 @@ not-found v f =
     ap₂ _++_
     (joined-empty 1 32 (ofOne v) (λ i l m. has-one v i (f .selves i)))
     (joined-empty 1 32 (ofPairs v) (λ i l m. joined-empty (suc i) (32 - i) (ofPair v i)
-    (λ j a b. empty-pair v i j (λ p q. unclean (viewOf v i) (viewOf v j) i j (f .pairs i j a p q)))))
+    (λ j a b. empty-pair v i j (λ p q. unclean (viewIn v i) (viewIn v j) i j (f .pairs i j a p q)))))
 
 -- One view inside another, as a test and as sets of pairs.
 inside-by : (a b : Bool) (p q x : ℕ) → cond a (b && eqb p q) true ≡ true → a ≡ true → p ≡ x → (b ≡ true) × (q ≡ x)
@@ -164,18 +164,18 @@ by-inside : (a b : Bool) (p q : ℕ) → (a ≡ true → (b ≡ true) × (q ≡ 
 by-inside false b p q h = refl
 by-inside true b p q h = ap₂ _&&_ (h refl .0) (eq-eqb p q (sym (h refl .1)))
 
-pub is-inside : (v : Views) (i j : ℕ) → inside (viewOf v i) (viewOf v j) ≡ true → Inside (Pair v i) (Pair v j)
+pub is-inside : (v : Views) (i j : ℕ) → inside (viewIn v i) (viewIn v j) ≡ true → Inside (Pair v i) (Pair v j)
 unfolding inside
 is-inside v i j e k x p =
     let h = has-known (seenBy v i) k (p .named) in
     let t = inside-by (has (seenBy v i) k) (has (seenBy v j) k) (valueBy v i k) (valueBy v j k) x
-    (every-true 32 (insideAt (viewOf v i) (viewOf v j)) e k (h .0) (h .1)) (p .named) (p .holds) in
+    (every-true 32 (insideAt (viewIn v i) (viewIn v j)) e k (h .0) (h .1)) (p .named) (p .holds) in
     record { named = t .0; holds = t .1 }
 
-pub inside-is : (v : Views) (i j : ℕ) → Inside (Pair v i) (Pair v j) → inside (viewOf v i) (viewOf v j) ≡ true
+pub inside-is : (v : Views) (i j : ℕ) → Inside (Pair v i) (Pair v j) → inside (viewIn v i) (viewIn v j) ≡ true
 unfolding inside
 inside-is v i j f =
-    true-every 32 (insideAt (viewOf v i) (viewOf v j))
+    true-every 32 (insideAt (viewIn v i) (viewIn v j))
     (λ k a b. by-inside (has (seenBy v i) k) (has (seenBy v j) k) (valueBy v i k) (valueBy v j k)
     (λ n. let t = f k (valueBy v i k) (record { named = n; holds = refl }) in (t .named, t .holds)))
 
@@ -196,7 +196,7 @@ agree-at true true p q e h k = eqb-true p q e
 agree-at true false p q e h k = absurd (false≢true k)
 agree-at false b p q e h k = absurd (false≢true h)
 
-same-value : (x y : View) (k : ℕ) → agree x y ≡ true → has (x .set) k ≡ true → has (y .set) k ≡ true → x .value k ≡ y .value k
+pub same-value : (x y : View) (k : ℕ) → agree x y ≡ true → has (x .set) k ≡ true → has (y .set) k ≡ true → x .value k ≡ y .value k
 unfolding agree
 same-value x y k e a b =
     let h = has-known (x .set) k a in
@@ -238,19 +238,13 @@ obeys v f =
       simultaneity = λ i j a b p q. obeys-alike v f i j a b (p .named) (q .named) (order i j);
     }
 
--- 23 is a break of containment: nested views agree.
-nested-agrees : (v : Views) (i j : ℕ) → Inside (Pair v i) (Pair v j) ⊎ Inside (Pair v j) (Pair v i) → agree (viewOf v i) (viewOf v j) ≡ true
+-- Nested views agree.
+nested-agrees : (v : Views) (i j : ℕ) → Inside (Pair v i) (Pair v j) ⊎ Inside (Pair v j) (Pair v i) → agree (viewIn v i) (viewIn v j) ≡ true
 nested-agrees v i j n =
     ⊎-elim
-    (λ s. inside-agrees (viewOf v i) (viewOf v j) (inside-is v i j s))
-    (λ s. agree-swapped (viewOf v j) (viewOf v i) (inside-agrees (viewOf v j) (viewOf v i) (inside-is v j i s)))
+    (λ s. inside-agrees (viewIn v i) (viewIn v j) (inside-is v i j s))
+    (λ s. agree-swapped (viewIn v j) (viewIn v i) (inside-agrees (viewIn v j) (viewIn v i) (inside-is v j i s)))
     n
-
-pub disagree-is-apart : DisagreeIsApart
-disagree-is-apart v i j d = (λ s. never (nested-agrees v i j (inl s)), λ s. never (nested-agrees v i j (inr s)))
-  where
-    never : agree (viewOf v i) (viewOf v j) ≡ true → ⊥
-    never t = false≢true (sym (ap not t) ∙ d)
 
 pub obeyed : (v : Views) → Obeys v → Fine v
 obeyed v o =
@@ -258,8 +252,8 @@ obeyed v o =
     record {
       selves = selves;
       pairs = λ i j l a b.
-          let x = viewOf v i in
-          let y = viewOf v j in
+          let x = viewIn v i in
+          let y = viewIn v j in
           let n = o .containment i j a b in
           let g : agree x y ≡ true = nested-agrees v i j n in
           record {

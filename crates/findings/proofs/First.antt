@@ -9,7 +9,7 @@ use Rattle.text.specs.Parts.{joined}
 use Rattle.findings.specs.declared.Finding.{Finding}
 use Rattle.findings.specs.declared.Finding.the-variants.{LacksItself, Apart, Unlike, Disagree}
 use Rattle.findings.specs.declared.Found.{Found}
-use Rattle.findings.specs.Findings.{isFinding, found, only, View, viewOf, lacks, breaks, disagree, apart, unlike}
+use Rattle.findings.specs.Findings.{isFinding, found, only, View, viewIn, lacks, breaks, disagree, apart, unlike}
 use Rattle.findings.specs.Findings.{ofOne, ofPair, ofPairs, firstBreak, firstOf}
 
 -- every part of a list is a finding
@@ -32,7 +32,7 @@ real-one false i = tt
 
 pub real-ofOne : (v : Views) (i : ℕ) → Real (ofOne v i)
 unfolding ofOne
-real-ofOne v i = real-one (owns v i && lacks (viewOf v i) i) i
+real-ofOne v i = real-one (owns v i && lacks (viewIn v i) i) i
 
 real-pair : (o a b c : Bool) (i j : ℕ) → Real (cond o (map (λ k. found k i j) (only a Disagree ++ only b Apart ++ only c Unlike)) [])
 real-pair false a b c i j = tt
@@ -48,8 +48,8 @@ real-pair true false false false i j = tt
 pub real-ofPair : (v : Views) (i j : ℕ) → Real (ofPair v i j)
 unfolding ofPair breaks
 real-ofPair v i j =
-    let x = viewOf v i in
-    let y = viewOf v j in
+    let x = viewIn v i in
+    let y = viewIn v j in
     real-pair (owns v i && owns v j) (disagree x y) (apart x y) (unlike x y i j) i j
 
 pub real-ofPairs : (v : Views) (i : ℕ) → Real (ofPairs v i)

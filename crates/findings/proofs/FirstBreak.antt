@@ -2,7 +2,7 @@
 use Prim.Native.Nat.{ℕ, zero, suc, _+_, _-_, _≤_, _<_}
 use mathlib.Core.Bool.{Bool, true, false, not, _&&_, cond, false≢true, and-eq-true-iff}
 use mathlib.Core.Path.{_≡_, refl, sym, ap, ap₂, _∙_, subst}
-use mathlib.Core.Logic.{_⊎_, inl, inr, ⊎-elim}
+use mathlib.Core.Logic.{_≢_, _⊎_, inl, inr, ⊎-elim}
 use mathlib.Core.List.{List, [], _∷_, _++_, map}
 use native.Mathlib.Nat.{eq-or-lt-of-le}
 use native.Mathlib.Omega.{arith}
@@ -14,16 +14,17 @@ use Rattle.text.specs.Parts.{joined}
 use Rattle.findings.specs.declared.Finding.{Finding}
 use Rattle.findings.specs.declared.Finding.the-variants.{Nothing, LacksItself, Apart, Unlike, Disagree}
 use Rattle.findings.specs.declared.Found.{Found}
-use Rattle.findings.specs.Findings.{found, isFinding, only, View, viewOf, disagree, apart, unlike, breaks}
-use Rattle.findings.specs.Findings.{ofOne, ofPair, ofAll, ofPairs, findings, firstBreak, firstOf, checkOf}
-use Rattle.findings.specs.Properties.{Has, FirstAlone, FirstPair, YesIsNoFinding, NoViewsAccepted, NamesTheFirst}
+use Rattle.findings.specs.Findings.{found, isFinding, only, viewIn, breaks}
+use Rattle.findings.specs.Findings.{ofOne, ofPair, ofOnes, ofPairs, findings, firstBreak, firstOf, checkOf}
+use Rattle.findings.specs.Properties.{Has, Sees, FirstAlone, FirstPair, YesIsNoFinding, NoViewsAccepted, NamesTheFirst}
 use Rattle.findings.proofs.First.{Real, real-append, real-joined, real-ofOne, real-ofPair, real-ofPairs, first-here, first-later, none-first}
 use Rattle.findings.proofs.Accepts.{joined-parts, joined-empty, pair-empty, empty-pair, one-has, has-one, not-found}
+use Rattle.findings.proofs.Pairs.{sees-exactly, pair-gives, none-given}
 
 pub real-findings : (v : Views) → Real (findings v)
 unfolding findings
 real-findings v =
-    real-append (ofAll v) (joined 1 32 (ofPairs v)) (real-joined 1 32 (ofOne v) (real-ofOne v)) (real-joined 1 32 (ofPairs v) (real-ofPairs v))
+    real-append (ofOnes v) (joined 1 32 (ofPairs v)) (real-joined 1 32 (ofOne v) (real-ofOne v)) (real-joined 1 32 (ofPairs v) (real-ofPairs v))
 
 pub yes-is-no-finding : YesIsNoFinding
 unfolding checkOf
@@ -89,17 +90,6 @@ one-finding true true h i j k t e = absurd (false≢true (ap (λ (f : Found). is
 one-finding false l h i j k t e = absurd (false≢true (ap (λ (f : Found). isFinding (f .finding)) e ∙ t))
 
 -- The finding of a pair: the first of its numbers.
-pub numbered : (a b c : Bool) → firstBreak (only a Disagree ++ only b Apart ++ only c Unlike) ≡ cond a Disagree (cond b Apart (cond c Unlike Nothing))
-numbered true b c = refl
-numbered false true c = refl
-numbered false false true = refl
-numbered false false false = refl
-
-pub first-number : (x y : View) (i j : ℕ)
-    → firstBreak (breaks x y i j) ≡ cond (disagree x y) Disagree (cond (apart x y) Apart (cond (unlike x y i j) Unlike Nothing))
-unfolding breaks
-first-number x y i j = numbered (disagree x y) (apart x y) (unlike x y i j)
-
 pair-finding : (o : Bool) (ks : List Finding) (g h i j : ℕ) (k : Finding) → isFinding k ≡ true
     → firstOf (cond o (map (λ q. found q g h) ks) []) ≡ found k i j
     → (o ≡ true) × (firstBreak ks ≡ k) × (g ≡ i) × (h ≡ j)
@@ -113,8 +103,15 @@ finding-pair true (q ∷ ks) i j k o e t = ap (λ (x : Finding). found x i j) e
 finding-pair true [] i j k o e t = absurd (false≢true (ap isFinding e ∙ t))
 finding-pair false ks i j k o e t = absurd (false≢true o)
 
+is-finding : (k : Finding) → k ≢ Nothing → isFinding k ≡ true
+is-finding Nothing n = absurd (n refl)
+is-finding LacksItself n = refl
+is-finding Apart n = refl
+is-finding Unlike n = refl
+is-finding Disagree n = refl
+
 -- From the answer to the break.
-alone-first : (v : Views) (k : Finding) (i j : ℕ) → isFinding k ≡ true → firstOf (ofAll v) ≡ found k i j → (k ≡ LacksItself) × (j ≡ 0) × FirstAlone v i
+alone-first : (v : Views) (k : Finding) (i j : ℕ) → isFinding k ≡ true → firstOf (ofOnes v) ≡ found k i j → (k ≡ LacksItself) × (j ≡ 0) × FirstAlone v i
 unfolding ofOne
 alone-first v k i j t e =
     let s : At 1 32 (ofOne v) (found k i j) = found-at 1 32 (ofOne v) (real-ofOne v) (found k i j) t e in
@@ -122,11 +119,11 @@ alone-first v k i j t e =
     let p = one-finding (owns v h) (has (seenBy v h) h) h i j k t (s .here) in
     let own : Has v i = subst (λ (x : ℕ). Has v x) (p .3) (p .0) in
     let gone : has (seenBy v i) i ≡ false = subst (λ (x : ℕ). has (seenBy v x) x ≡ false) (p .3) (p .1) in
-    let before : (x : ℕ) → x < i → Has v x → has (seenBy v x) x ≡ true
-    = λ x l o. one-has v x (s .before x (has-known (v .own) x o .0) (omega (arith, p .3))) o in
-    (p .2, p .4, record { owner = own; missing = gone; before = before })
+    let before : (x : ℕ) → x < i → Has v x → Sees v x x
+    = λ x l o. sees-exactly v x x .0 (one-has v x (s .before x (has-known (v .own) x o .0) (omega (arith, p .3))) o) in
+    (p .2, p .4, record { owner = own; missing = λ t. false≢true (sym gone ∙ sees-exactly v i i .1 t); before = before })
 
-pairs-first : (v : Views) (k : Finding) (i j : ℕ) → isFinding k ≡ true → ofAll v ≡ []
+pairs-first : (v : Views) (k : Finding) (i j : ℕ) → isFinding k ≡ true → ofOnes v ≡ []
     → firstOf (joined 1 32 (ofPairs v)) ≡ found k i j → FirstPair v k i j
 unfolding ofPair
 pairs-first v k i j t none e =
@@ -134,29 +131,31 @@ pairs-first v k i j t none e =
     let g : ℕ = s .index in
     let u : At (suc g) (32 - g) (ofPair v g) (found k i j) = found-at (suc g) (32 - g) (ofPair v g) (real-ofPair v g) (found k i j) t (s .here) in
     let h : ℕ = u .index in
-    let p = pair-finding (owns v g && owns v h) (breaks (viewOf v g) (viewOf v h) g h) g h i j k t (u .here) in
+    let p = pair-finding (owns v g && owns v h) (breaks (viewIn v g) (viewIn v h) g h) g h i j k t (u .here) in
     let o = and-eq-true-iff (owns v g) (owns v h) .0 (p .0) in
     let eg : g ≡ i = p .2 in
     let eh : h ≡ j = p .3 in
-    let first : firstBreak (breaks (viewOf v i) (viewOf v j) i j) ≡ k
-    = subst (λ (y : ℕ). firstBreak (breaks (viewOf v i) (viewOf v y) i y) ≡ k) eh
-    (subst (λ (x : ℕ). firstBreak (breaks (viewOf v x) (viewOf v h) x h) ≡ k) eg (p .1)) in
+    let first : firstBreak (breaks (viewIn v i) (viewIn v j) i j) ≡ k
+    = subst (λ (y : ℕ). firstBreak (breaks (viewIn v i) (viewIn v y) i y) ≡ k) eh
+    (subst (λ (x : ℕ). firstBreak (breaks (viewIn v x) (viewIn v h) x h) ≡ k) eg (p .1)) in
     record {
-      selves = λ x ox. let q = has-known (v .own) x ox in one-has v x (joined-parts 1 32 (ofOne v) none x (q .0) (omega arith)) ox;
+      selves = λ x ox.
+          let q = has-known (v .own) x ox in
+          sees-exactly v x x .0 (one-has v x (joined-parts 1 32 (ofOne v) none x (q .0) (omega arith)) ox);
       owner = subst (λ (x : ℕ). Has v x) eg (o .0);
       other = subst (λ (x : ℕ). Has v x) eh (o .1);
       order = omega (arith, u .low, eg, eh);
-      number = sym (first-number (viewOf v i) (viewOf v j) i j) ∙ first;
-      finding = t;
+      number = pair-gives v i j k .0 first;
+      finding = λ e. false≢true (sym (ap isFinding e) ∙ t);
       before = λ a b order l oa ob.
           let qa = has-known (v .own) a oa in
           let qb = has-known (v .own) b ob in
-          pair-empty v a b oa ob
+          none-given v a b .0 (pair-empty v a b oa ob
           (⊎-elim
           (λ z. joined-parts (suc a) (32 - a) (ofPair v a) (s .before a (qa .0) (omega (arith, eg))) b l (omega arith))
           (λ z. let inner : ofPair v g b ≡ [] = u .before b (omega (arith, eg)) (omega (arith, eh)) in
           subst (λ (x : ℕ). ofPair v x b ≡ []) (eg ∙ sym (z .0)) inner)
-          order);
+          order));
     }
 
 -- From the break to the answer.
@@ -164,13 +163,15 @@ alone-answers : (v : Views) (i : ℕ) → FirstAlone v i → checkOf v ≡ found
 unfolding checkOf findings ofOne
 alone-answers v i f =
     let q = has-known (v .own) i (f .owner) in
-    let b : (owns v i && not (has (seenBy v i) i)) ≡ true = ap₂ (λ (x y : Bool). x && not y) (f .owner) (f .missing) in
+    let gone : has (seenBy v i) i ≡ false
+    = ⊎-elim (λ s. absurd (f .missing (sees-exactly v i i .0 s))) (λ n. n) (either (has (seenBy v i) i)) in
+    let b : (owns v i && not (has (seenBy v i) i)) ≡ true = ap₂ (λ (x y : Bool). x && not y) (f .owner) gone in
     let here : firstOf (ofOne v i) ≡ found LacksItself i 0 = ap (λ (x : Bool). firstOf (map (λ k. found k i 0) (only x LacksItself))) b in
     let t : isFinding (firstOf (ofOne v i) .finding) ≡ true = ap (λ (x : Found). isFinding (x .finding)) here in
-    let all : firstOf (ofAll v) ≡ firstOf (ofOne v i)
-    = at-found 1 32 (ofOne v) i (q .0) (omega arith) t (λ h l m. has-one v h (f .before h m)) in
-    let first : firstOf (ofAll v) ≡ found LacksItself i 0 = all ∙ here in
-    first-here (ofAll v) (joined 1 32 (ofPairs v)) (ap (λ (x : Found). isFinding (x .finding)) first) ∙ first
+    let all : firstOf (ofOnes v) ≡ firstOf (ofOne v i)
+    = at-found 1 32 (ofOne v) i (q .0) (omega arith) t (λ h l m. has-one v h (λ o. sees-exactly v h h .1 (f .before h m o))) in
+    let first : firstOf (ofOnes v) ≡ found LacksItself i 0 = all ∙ here in
+    first-here (ofOnes v) (joined 1 32 (ofPairs v)) (ap (λ (x : Found). isFinding (x .finding)) first) ∙ first
 
 pair-answers : (v : Views) (k : Finding) (i j : ℕ) → FirstPair v k i j → checkOf v ≡ found k i j
 unfolding checkOf findings ofPair
@@ -178,19 +179,19 @@ pair-answers v k i j f =
     let q = has-known (v .own) i (f .owner) in
     let r = has-known (v .own) j (f .other) in
     let ofReal : (x : Found) → x ≡ found k i j → isFinding (x .finding) ≡ true
-    = λ x e. ap (λ (y : Found). isFinding (y .finding)) e ∙ f .finding in
+    = λ x e. ap (λ (y : Found). isFinding (y .finding)) e ∙ is-finding k (f .finding) in
     let here : firstOf (ofPair v i j) ≡ found k i j
-    = finding-pair (owns v i && owns v j) (breaks (viewOf v i) (viewOf v j) i j) i j k (ap₂ _&&_ (f .owner) (f .other))
-    (first-number (viewOf v i) (viewOf v j) i j ∙ f .number) (f .finding) in
+    = finding-pair (owns v i && owns v j) (breaks (viewIn v i) (viewIn v j) i j) i j k (ap₂ _&&_ (f .owner) (f .other))
+    (pair-gives v i j k .1 (f .number)) (is-finding k (f .finding)) in
     let row : firstOf (ofPairs v i) ≡ found k i j
     = at-found (suc i) (32 - i) (ofPair v i) j (f .order) (omega (arith, f .order)) (ofReal (firstOf (ofPair v i j)) here)
-    (λ h l m. empty-pair v i h (f .before i h (inr (refl, m)) l))
+    (λ h l m. empty-pair v i h (λ p q. none-given v i h .1 (f .before i h (inr (refl, m)) l p q)))
     ∙ here in
     let all : firstOf (joined 1 32 (ofPairs v)) ≡ found k i j
     = at-found 1 32 (ofPairs v) i (q .0) (omega arith) (ofReal (firstOf (ofPairs v i)) row)
-    (λ g l m. joined-empty (suc g) (32 - g) (ofPair v g) (λ h a b. empty-pair v g h (f .before g h (inl m) a)))
+    (λ g l m. joined-empty (suc g) (32 - g) (ofPair v g) (λ h a b. empty-pair v g h (λ p q. none-given v g h .1 (f .before g h (inl m) a p q))))
     ∙ row in
-    let none : ofAll v ≡ [] = joined-empty 1 32 (ofOne v) (λ h l m. has-one v h (f .selves h)) in
+    let none : ofOnes v ≡ [] = joined-empty 1 32 (ofOne v) (λ h l m. has-one v h (λ o. sees-exactly v h h .1 (f .selves h o))) in
     ap (λ l. firstOf (l ++ joined 1 32 (ofPairs v))) none ∙ all
 
 answered : (v : Views) (k : Finding) (i j : ℕ) → isFinding k ≡ true → checkOf v ≡ found k i j
@@ -198,14 +199,14 @@ answered : (v : Views) (k : Finding) (i j : ℕ) → isFinding k ≡ true → ch
 unfolding checkOf findings
 answered v k i j t e =
     ⊎-elim
-    (λ q. inl (alone-first v k i j t (sym (first-here (ofAll v) (joined 1 32 (ofPairs v)) q) ∙ e)))
-    (λ q. let none : ofAll v ≡ [] = none-first (ofAll v) (real-joined 1 32 (ofOne v) (real-ofOne v)) q in
+    (λ q. inl (alone-first v k i j t (sym (first-here (ofOnes v) (joined 1 32 (ofPairs v)) q) ∙ e)))
+    (λ q. let none : ofOnes v ≡ [] = none-first (ofOnes v) (real-joined 1 32 (ofOne v) (real-ofOne v)) q in
     inr (pairs-first v k i j t none (sym (ap (λ l. firstOf (l ++ joined 1 32 (ofPairs v))) none) ∙ e)))
-    (either (isFinding (firstOf (ofAll v) .finding)))
+    (either (isFinding (firstOf (ofOnes v) .finding)))
 
 pub names-the-first : NamesTheFirst
 names-the-first v k i j t = (
-  answered v k i j t,
+  answered v k i j (is-finding k t),
   ⊎-elim
       (λ p. alone-answers v i (p .2) ∙ ap₂ (λ (x : Finding) (y : ℕ). found x i y) (sym (p .0)) (sym (p .1)))
       (pair-answers v k i j),

@@ -2,6 +2,7 @@
 pub mod Agreement
 pub mod First
 pub mod Accepts
+pub mod Pairs
 pub mod FirstBreak
 pub mod Verdicts
 pub mod Examples

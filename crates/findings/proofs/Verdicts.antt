@@ -1,12 +1,16 @@
 -- The verdict of what was read, put together from its parts, and what it promises of a file.
-use Prim.Native.Nat.{ℕ}
+use Prim.Native.Nat.{ℕ, _≤_, _<_}
 use mathlib.Core.List.{List}
-use mathlib.Core.Logic.{⊎-elim}
+use mathlib.Core.Logic.{_≢_, _⊎_, inl, inr, ⊎-elim}
 use mathlib.Core.Bool.{Bool, true, false, cond}
 use mathlib.Core.Path.{_≡_, refl, sym, ap, _∙_}
 use native.Mathlib.Omega.{arith}
+use lib.Dec.{eqb}
 use borrow.Author.Tests.{eq-eqb, ne-eqb, eqb-false}
 use Rattle.sets.proofs.Laws.{either}
+use Rattle.formats.specs.declared.FileAnswer.{FileAnswer}
+use Rattle.formats.specs.declared.FileAnswer.the-variants.{Whole, OutOfRange, NotHeader, OtherMark, MarkCut, BodyCut, HeaderAgain}
+use Rattle.formats.specs.declared.FileAnswer.the-variants.{BudgetSpent, NoProcess, SecondView, NamesAbove}
 use Rattle.formats.specs.declared.Views.{Views}
 use Rattle.formats.specs.declared.ViewsRead.{ViewsRead}
 use Rattle.formats.specs.Numbers.{numberOf, accepted}
@@ -17,7 +21,7 @@ use Rattle.findings.specs.declared.Found.{Found}
 use Rattle.findings.specs.declared.FileVerdict.{FileVerdict}
 use Rattle.findings.specs.Findings.{findingNumber, isFinding, findings, checkOf}
 use Rattle.findings.specs.Verdict.{judged, unread, verdictBy, verdictOf}
-use Rattle.findings.specs.Properties.{Obeys, RefusedFirst, ReadThenChecked, YesExactly}
+use Rattle.findings.specs.Properties.{Obeys, RefusedFirst, ReadThenChecked, VerdictNumbers, EveryVerdictNumbered, YesExactly}
 use Rattle.formats.proofs.WholeFile.{read-place}
 use Rattle.findings.proofs.First.{none-first}
 use Rattle.findings.proofs.Accepts.{accepts-exactly}
@@ -78,3 +82,81 @@ yes-exactly s = (
       ap (λ (x : FileVerdict). x .number) (read-then-checked s (p .0))
       ∙ ap (λ (f : Found). findingNumber (f .finding)) (yes-is-no-finding v .1 (accepts-exactly v .1 (p .1))),
 )
+
+-- A finding by its number, and the numbers of a refused file, which are none of these.
+findingOf : ℕ → Finding
+findingOf n =
+    cond (eqb n 20) LacksItself (cond (eqb n 21) Apart (cond (eqb n 22) Unlike (cond (eqb n 23) Disagree Nothing)))
+
+finding-back : (k : Finding) → findingOf (findingNumber k) ≡ k
+unfolding findingOf
+finding-back Nothing = refl
+finding-back LacksItself = refl
+finding-back Apart = refl
+finding-back Unlike = refl
+finding-back Disagree = refl
+
+finding-number : (k : Finding) → (k ≡ Nothing) ⊎ (20 ≤ findingNumber k)
+finding-number Nothing = inl refl
+finding-number LacksItself = inr (omega arith)
+finding-number Apart = inr (omega arith)
+finding-number Unlike = inr (omega arith)
+finding-number Disagree = inr (omega arith)
+
+file-number : (a : FileAnswer) → numberOf a < 20
+file-number Whole = omega arith
+file-number OutOfRange = omega arith
+file-number NotHeader = omega arith
+file-number OtherMark = omega arith
+file-number MarkCut = omega arith
+file-number BodyCut = omega arith
+file-number HeaderAgain = omega arith
+file-number BudgetSpent = omega arith
+file-number NoProcess = omega arith
+file-number SecondView = omega arith
+file-number NamesAbove = omega arith
+
+module _ (s : List ℕ) where
+  found : Finding
+  found = checkOf (readOf s .views) .finding
+
+  told : ℕ
+  told = numberOf (readOf s .answer)
+
+  of-read : accepted (readOf s .answer) ≡ true → verdictOf s .number ≡ findingNumber found
+  unfolding found
+  of-read e = ap (λ (x : FileVerdict). x .number) (read-then-checked s e)
+
+  of-refused : accepted (readOf s .answer) ≡ false → verdictOf s .number ≡ told
+  unfolding told
+  of-refused e = ap (λ (x : FileVerdict). x .number) (refused-first s e)
+
+  finds : (k : Finding) → k ≢ Nothing → verdictOf s .number ≡ findingNumber k
+      → (accepted (readOf s .answer) ≡ true) × (checkOf (readOf s .views) .finding ≡ k)
+  unfolding found told
+  finds k n e =
+      ⊎-elim
+      (λ t. (t, sym (finding-back found) ∙ ap findingOf (sym (of-read t) ∙ e) ∙ finding-back k))
+      (λ t. absurd (⊎-elim (λ z. n z) (λ l. omega (arith, file-number (readOf s .answer), of-refused t)) (finding-number k)))
+      (either (accepted (readOf s .answer)))
+
+  refuses : (x : ℕ) → x ≢ 0 → x < 20 → verdictOf s .number ≡ x → told ≡ x
+  refuses x n l e =
+      ⊎-elim
+      (λ t. absurd (⊎-elim
+      (λ z. n (sym e ∙ of-read t ∙ ap findingNumber z))
+      (λ h. omega (arith, of-read t))
+      (finding-number found)))
+      (λ t. sym (of-refused t) ∙ e)
+      (either (accepted (readOf s .answer)))
+
+  verdict-numbers : VerdictNumbers s
+  unfolding found told
+  verdict-numbers =
+      record {
+        finding = λ k n. (finds k n, λ p. of-read (p .0) ∙ ap findingNumber (p .1));
+        refusal = λ x n l. (refuses x n l, λ e. of-refused (ne-eqb told 0 (λ z. n (sym e ∙ z))) ∙ e);
+      }
+
+pub every-verdict-numbered : EveryVerdictNumbered
+every-verdict-numbered = verdict-numbers

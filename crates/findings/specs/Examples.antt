@@ -11,8 +11,9 @@ use Rattle.text.specs.Parts.{joined}
 use Rattle.formats.specs.ViewFile.{readOf}
 use Rattle.formats.specs.Examples.{MN, VW}
 use Rattle.findings.specs.declared.FileVerdict.{FileVerdict}
+use Rattle.findings.specs.declared.Finding.the-variants.{Nothing, Apart, Unlike, Disagree}
 use Rattle.findings.specs.declared.Found.{Found}
-use Rattle.findings.specs.Findings.{ofPair, ofAll}
+use Rattle.findings.specs.Findings.{found, ofPair, ofOnes, findings, checkOf}
 use Rattle.findings.specs.Verdict.{verdictOf}
 
 pub record Example : Type 0 where
@@ -49,17 +50,32 @@ examples =
     ∷ whole (MN 5 ++ VW 3 4 ++ val 0) 0 0 0
     -- 20: an empty view, and one without its own process, the lowest first, before any pair
     ∷ whole (MN 5 ++ VW 3 0) 20 3 0
+    ∷ whole (MN 5 ++ VW 1 2 ++ val 2) 20 1 0
     ∷ whole (MN 5 ++ VW 5 1 ++ val 1 ++ VW 3 2 ++ val 2 ++ VW 1 1 ++ val 3) 20 3 0
     -- 23 of a process that both name and that has no view of its own, before 21 of the same pair
     ∷ whole (MN 5 ++ VW 1 5 ++ val 1 ++ val 7 ++ VW 2 6 ++ val 2 ++ val 8) 23 1 2
     ∷ whole (MN 5 ++ VW 1 5 ++ val 1 ++ val 7 ++ VW 2 6 ++ val 2 ++ val 7) 21 1 2
-    -- pairs by i and then by j, by process numbers and not by the order of the records
+    -- pairs by i and then by j: 1 and 4 before 2 and 3; 21 of 1 and 2 before 23 of 1 and 3
+    ∷ whole (MN 4 ++ VW 1 1 ++ val 1 ++ VW 2 3 ++ val 1 ++ val 2 ++ VW 3 5 ++ val 1 ++ val 3 ++ VW 4 8 ++ val 4) 21 1 4
+    ∷ whole (MN 3 ++ VW 1 1 ++ val 1 ++ VW 2 2 ++ val 2 ++ VW 3 5 ++ val 5 ++ val 3) 21 1 2
+    -- by process numbers and not by the order of the records
     ∷ whole (MN 4 ++ VW 4 8 ++ val 4 ++ VW 3 4 ++ val 3 ++ VW 2 2 ++ val 2 ++ VW 1 15 ++ val 1 ++ val 2 ++ val 3 ++ val 4) 21 2 3
-    -- nested views of processes that do not see each other, and equal views of two that do
+    -- nested views, either inside the other, where one process sees the other, and equal views of two that see each other
     ∷ whole (MN 2 ++ VW 1 1 ++ val 7 ++ VW 2 3 ++ val 7 ++ val 9) 0 0 0
+    ∷ whole (MN 2 ++ VW 1 3 ++ val 7 ++ val 9 ++ VW 2 2 ++ val 9) 0 0 0
     ∷ whole (MN 2 ++ VW 1 3 ++ val 7 ++ val 9 ++ VW 2 3 ++ val 7 ++ val 9) 0 0 0
     -- equal sets with different values
     ∷ whole (MN 2 ++ VW 1 3 ++ val 7 ++ val 9 ++ VW 2 3 ++ val 7 ++ val 8) 23 1 2
+    -- 1:{1,2,3} and 2:{1,2,4} see each other and neither is inside the other: 21 before 22; 1:{1,2,3,4} and 2:{1,2,3}: 22, the other way round than P10
+    ∷ whole (MN 4 ++ VW 1 7 ++ val 1 ++ val 2 ++ val 3 ++ VW 2 11 ++ val 1 ++ val 2 ++ val 4) 21 1 2
+    ∷ whole (MN 4 ++ VW 1 15 ++ val 1 ++ val 2 ++ val 3 ++ val 4 ++ VW 2 7 ++ val 1 ++ val 2 ++ val 3) 22 1 2
+    -- up to the last process, each number and its neighbour: 31 and 32 with {31,32}, of the same values and of different ones of 32
+    ∷ whole (MN 32 ++ VW 31 3221225472 ++ val 1 ++ val 2 ++ VW 32 3221225472 ++ val 1 ++ val 2) 0 0 0
+    ∷ whole (MN 32 ++ VW 31 3221225472 ++ val 1 ++ val 2 ++ VW 32 3221225472 ++ val 1 ++ val 3) 23 31 32
+    -- 31:{31} and 32:{32}; 31:{31,32} and 32:{1,31,32}; 32:{31}
+    ∷ whole (MN 32 ++ VW 31 1073741824 ++ val 1 ++ VW 32 2147483648 ++ val 2) 21 31 32
+    ∷ whole (MN 32 ++ VW 31 3221225472 ++ val 1 ++ val 2 ++ VW 32 3221225473 ++ val 0 ++ val 1 ++ val 2) 22 31 32
+    ∷ whole (MN 32 ++ VW 31 1073741824 ++ val 1 ++ VW 32 1073741824 ++ val 1) 20 32 0
     -- the file's own numbers first
     ∷ of (p9 ++ 86 ∷ []) 11 (length p9) 0 0
     ∷ of (p10 ++ VW 4 8) 14 (length p10) 0 0
@@ -76,9 +92,23 @@ hold (e ∷ es) = agrees (verdictOf (e .file)) e && hold es
 abbrev pub ExamplesHold : Type 0
 ExamplesHold = hold examples ≡ true
 
+-- "23 is a break of containment with a number of its own": of equal sets with different values 23, 21 and 22 all hold, and the first is given.
+abbrev pub unequal : Views
+unequal = readOf (MN 2 ++ VW 1 3 ++ val 7 ++ val 9 ++ VW 2 3 ++ val 7 ++ val 8) .views
+
+abbrev pub AllThreeFound : Type 0
+AllThreeFound = findings unequal ≡ found Disagree 1 2 ∷ found Apart 1 2 ∷ found Unlike 1 2 ∷ []
+
+-- "Only processes that have a view in the file are compared": of one of the two alone there is nothing to find, whatever stands where the other's was.
+abbrev alone : ℕ → Views
+alone own = record { n = 2; own = own; seen = unequal .seen; values = unequal .values }
+
+abbrev pub NotCompared : Type 0
+NotCompared = (checkOf (alone 1) ≡ found Nothing 0 0) × (checkOf (alone 2) ≡ found Nothing 0 0)
+
 -- Document 01's error "Comparing a view only with the next process's view: P9 passes": of the pairs (i, i + 1) alone nothing is found.
 abbrev nextOnly : Views → List Found
-nextOnly v = ofAll v ++ joined 1 32 (λ i. ofPair v i (suc i))
+nextOnly v = ofOnes v ++ joined 1 32 (λ i. ofPair v i (suc i))
 
 abbrev pub P9PassesByNeighbours : Type 0
 P9PassesByNeighbours = nextOnly (readOf p9 .views) ≡ []

@@ -46,8 +46,8 @@ pub record View : Type 0 where
 abbrev pub view : ℕ → List ℕ → ℕ → View
 view w values i = record { set = w; value = λ j. getD values (cell i j) 0 }
 
-abbrev pub viewOf : Views → ℕ → View
-viewOf v i = view (seenBy v i) (v .values) i
+abbrev pub viewIn : Views → ℕ → View
+viewIn v i = view (seenBy v i) (v .values) i
 
 -- no process has different values in x and y
 abbrev pub sameAt : View → View → ℕ → Bool
@@ -88,21 +88,23 @@ breaks x y i j = only (disagree x y) Disagree ++ only (apart x y) Apart ++ only 
 
 -- "First 20 for the lowest process that has such a view, as i, with j = 0."
 unfoldable pub ofOne : Views → ℕ → List Found
-ofOne v i = map (λ k. found k i 0) (only (owns v i && lacks (viewOf v i) i) LacksItself)
+ofOne v i = map (λ k. found k i 0) (only (owns v i && lacks (viewIn v i) i) LacksItself)
 
 -- "Only processes that have a view in the file are compared; a view may name others."
 unfoldable pub ofPair : Views → ℕ → ℕ → List Found
-ofPair v i j = cond (owns v i && owns v j) (map (λ k. found k i j) (breaks (viewOf v i) (viewOf v j) i j)) []
+ofPair v i j = cond (owns v i && owns v j) (map (λ k. found k i j) (breaks (viewIn v i) (viewIn v j) i j)) []
 
--- all the findings: "Then each pair i < j, by i and then by j"
-abbrev pub ofAll : Views → List Found
-ofAll v = joined 1 32 (ofOne v)
+-- the 20s of all processes, the lowest first
+abbrev pub ofOnes : Views → List Found
+ofOnes v = joined 1 32 (ofOne v)
 
+-- "Then each pair i < j, by i and then by j": those of i
 abbrev pub ofPairs : Views → ℕ → List Found
 ofPairs v i = joined (suc i) (32 - i) (ofPair v i)
 
+-- all the findings
 unfoldable pub findings : Views → List Found
-findings v = ofAll v ++ joined 1 32 (ofPairs v)
+findings v = ofOnes v ++ joined 1 32 (ofPairs v)
 
 -- the first of a pair's findings, and the checker's answer: the first of all
 abbrev pub firstBreak : List Finding → Finding

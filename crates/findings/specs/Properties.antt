@@ -1,8 +1,8 @@
 -- The three properties of section 2.3 of document 002, of the views of a file as sets of (process, value) pairs, and what the checker promises.
 use Prim.Native.Nat.{ℕ, _<_}
-use mathlib.Core.Bool.{true, false, cond}
+use mathlib.Core.Bool.{true, false}
 use mathlib.Core.Path.{_≡_}
-use mathlib.Core.Logic.{_↔_, _⊎_}
+use mathlib.Core.Logic.{_↔_, _⊎_, _≢_}
 use mathlib.Core.List.{List, []}
 use lib.ListN.{length}
 use Rattle.sets.specs.Sets.{has}
@@ -13,7 +13,7 @@ use Rattle.formats.specs.Views.{owns, seenBy, valueBy, noneOf}
 use Rattle.formats.specs.ViewFile.{readOf}
 use Rattle.findings.specs.declared.Finding.{Finding}
 use Rattle.findings.specs.declared.Finding.the-variants.{Nothing, LacksItself, Apart, Unlike, Disagree}
-use Rattle.findings.specs.Findings.{found, isFinding, viewOf, disagree, apart, unlike, breaks, findings, checkOf}
+use Rattle.findings.specs.Findings.{findingNumber, found, viewIn, lacks, disagree, apart, unlike, findings, checkOf}
 use Rattle.findings.specs.Verdict.{judged, unread, verdictOf}
 
 -- process i has a view
@@ -25,13 +25,17 @@ pub record Pair (v : Views) (i j x : ℕ) : Type 0 where
   pub named : has (seenBy v i) j ≡ true
   pub holds : valueBy v i j ≡ x
 
+-- i sees j: a pair of j is in i's view
+abbrev pub Sees : Views → ℕ → ℕ → Type 0
+Sees v i j = (x : ℕ) × Pair v i j x
+
 -- What i deposited is its value in its own view. Of a process that has no view the properties ask nothing.
-abbrev pub given : Views → ℕ → ℕ
-given v i = valueBy v i i
+abbrev pub ownValue : Views → ℕ → ℕ
+ownValue v i = valueBy v i i
 
 -- self-inclusion, containment and simultaneity
 abbrev pub Obeys : Views → Type 0
-Obeys v = Immediate (Has v) (Pair v) (given v)
+Obeys v = Immediate (Has v) (Pair v) (ownValue v)
 
 -- "The view checker says yes exactly when self-inclusion, containment and simultaneity hold": of any views, in range or not
 abbrev pub AcceptsExactly : Type 0
@@ -43,37 +47,70 @@ YesIsNoFinding = (v : Views) → (checkOf v ≡ found Nothing 0 0) ↔ (findings
 
 -- "No views at all is accepted": where no process has a view, and so of a file that has none.
 pub record NoViewsAccepted : Type 0 where
-  pub nobody : (v : Views) → ((i : ℕ) → Has v i → ⊥) → checkOf v ≡ found Nothing 0 0
+  pub nobody : (v : Views) → ((i : ℕ) → ¬ Has v i) → checkOf v ≡ found Nothing 0 0
   pub none : (n : ℕ) → checkOf (noneOf n) ≡ found Nothing 0 0
 
--- "A view is a set of (process, value) pairs, so 23 is a break of containment": of two views that disagree neither is inside the other.
+-- Document 01's table, of views as sets of pairs. 20, "a view lacks its own process", is ¬ Sees v i i.
+-- 23: "two views give one process different values"
+pub record TwoValues (v : Views) (i j : ℕ) : Type 0 where
+  pub process : ℕ
+  pub one : ℕ
+  pub other : ℕ
+  pub here : Pair v i process one
+  pub there : Pair v j process other
+  pub differ : one ≢ other
+
+-- 21: "two views, neither inside the other"
+abbrev pub NeitherInside : Views → ℕ → ℕ → Type 0
+NeitherInside v i j = (¬ Inside (Pair v i) (Pair v j)) × (¬ Inside (Pair v j) (Pair v i))
+
+-- 22: "two processes see each other, views differ"
+pub record SeeAndDiffer (v : Views) (i j : ℕ) : Type 0 where
+  pub sees : Sees v i j
+  pub seen : Sees v j i
+  pub differ : ¬ (Inside (Pair v i) (Pair v j) × Inside (Pair v j) (Pair v i))
+
+-- the tests of specs/Findings.antt are these
+pub record TestsOfPairs : Type 0 where
+  pub twenty : (v : Views) (i : ℕ) → (lacks (viewIn v i) i ≡ true) ↔ (¬ Sees v i i)
+  pub twenty-one : (v : Views) (i j : ℕ) → (apart (viewIn v i) (viewIn v j) ≡ true) ↔ NeitherInside v i j
+  pub twenty-two : (v : Views) (i j : ℕ) → (unlike (viewIn v i) (viewIn v j) i j ≡ true) ↔ SeeAndDiffer v i j
+  pub twenty-three : (v : Views) (i j : ℕ) → (disagree (viewIn v i) (viewIn v j) ≡ true) ↔ TwoValues v i j
+
+-- "so 23 is a break of containment with a number of its own"
 abbrev pub DisagreeIsApart : Type 0
-DisagreeIsApart = (v : Views) (i j : ℕ) → disagree (viewOf v i) (viewOf v j) ≡ true
-    → (Inside (Pair v i) (Pair v j) → ⊥) × (Inside (Pair v j) (Pair v i) → ⊥)
+DisagreeIsApart = (v : Views) (i j : ℕ) → TwoValues v i j → NeitherInside v i j
 
 -- "and otherwise names the first break in the fixed order". First 20: i is the lowest process whose view lacks it.
 pub record FirstAlone (v : Views) (i : ℕ) : Type 0 where
   pub owner : Has v i
-  pub missing : has (seenBy v i) i ≡ false
-  pub before : (h : ℕ) → h < i → Has v h → has (seenBy v h) h ≡ true
+  pub missing : ¬ Sees v i i
+  pub before : (h : ℕ) → h < i → Has v h → Sees v h h
+
+-- "tested for 23, 21, 22": the first that holds of the views of i and j, or nothing where none does
+abbrev pub PairGives : Views → ℕ → ℕ → Finding → Type 0
+PairGives v i j Disagree = TwoValues v i j
+PairGives v i j Apart = (¬ TwoValues v i j) × NeitherInside v i j
+PairGives v i j Unlike = (¬ TwoValues v i j) × (¬ NeitherInside v i j) × SeeAndDiffer v i j
+PairGives v i j Nothing = (¬ TwoValues v i j) × (¬ NeitherInside v i j) × (¬ SeeAndDiffer v i j)
+PairGives v i j LacksItself = ⊥
 
 -- the pair (g, h) stands before (i, j)
 abbrev pub Before : ℕ → ℕ → ℕ → ℕ → Type 0
 Before g h i j = (g < i) ⊎ ((g ≡ i) × (h < j))
 
--- Then the pairs: no view lacks its own process, and (i, j) is the first pair with a finding, of which k is the first.
+-- Then the pairs: no view lacks its own process, and (i, j) is the first pair with a finding, which is k.
 pub record FirstPair (v : Views) (k : Finding) (i j : ℕ) : Type 0 where
-  pub selves : (h : ℕ) → Has v h → has (seenBy v h) h ≡ true
+  pub selves : (h : ℕ) → Has v h → Sees v h h
   pub owner : Has v i
   pub other : Has v j
   pub order : i < j
-  pub number : cond (disagree (viewOf v i) (viewOf v j)) Disagree
-      (cond (apart (viewOf v i) (viewOf v j)) Apart (cond (unlike (viewOf v i) (viewOf v j) i j) Unlike Nothing)) ≡ k
-  pub finding : isFinding k ≡ true
-  pub before : (g h : ℕ) → Before g h i j → g < h → Has v g → Has v h → breaks (viewOf v g) (viewOf v h) g h ≡ []
+  pub number : PairGives v i j k
+  pub finding : k ≢ Nothing
+  pub before : (g h : ℕ) → Before g h i j → g < h → Has v g → Has v h → PairGives v g h Nothing
 
 abbrev pub NamesTheFirst : Type 0
-NamesTheFirst = (v : Views) (k : Finding) (i j : ℕ) → isFinding k ≡ true
+NamesTheFirst = (v : Views) (k : Finding) (i j : ℕ) → k ≢ Nothing
     → (checkOf v ≡ found k i j) ↔ (((k ≡ LacksItself) × (j ≡ 0) × FirstAlone v i) ⊎ FirstPair v k i j)
 
 -- The verdict of a file: the file's own numbers first, and then the checker's answer, with the file's length as the place.
@@ -82,6 +119,15 @@ RefusedFirst = (s : List ℕ) → accepted (readOf s .answer) ≡ false → verd
 
 abbrev pub ReadThenChecked : Type 0
 ReadThenChecked = (s : List ℕ) → accepted (readOf s .answer) ≡ true → verdictOf s ≡ judged (length s) (checkOf (readOf s .views))
+
+-- Each number exactly: one of 20 to 23 where the file is read and the checker finds it, and one below where the reader gives it.
+pub record VerdictNumbers (s : List ℕ) : Type 0 where
+  pub finding : (k : Finding) → k ≢ Nothing
+      → (verdictOf s .number ≡ findingNumber k) ↔ ((accepted (readOf s .answer) ≡ true) × (checkOf (readOf s .views) .finding ≡ k))
+  pub refusal : (x : ℕ) → x ≢ 0 → x < 20 → (verdictOf s .number ≡ x) ↔ (numberOf (readOf s .answer) ≡ x)
+
+abbrev pub EveryVerdictNumbered : Type 0
+EveryVerdictNumbered = (s : List ℕ) → VerdictNumbers s
 
 -- 0 exactly for a file that is read and whose views obey the three properties
 abbrev pub YesExactly : Type 0

@@ -79,7 +79,7 @@ module _ (m : Machine) (S : Shaped m) where
 
   module _ (g : ℕ → ℕ) (I : Immediate (Has m) (View m) g) where
     -- what a process deposited is its value in its own view
-    given-is : (i : ℕ) → Has m i → properties.given (viewsOf m) i ≡ g i
+    given-is : (i : ℕ) → Has m i → properties.ownValue (viewsOf m) i ≡ g i
     given-is i h = view-pair i h i (g i) (I .self-inclusion i h) .holds
 
     inside : (i j : ℕ) (hi : Has m i) (hj : Has m j) → Inside (View m i) (View m j)
@@ -99,8 +99,8 @@ module _ (m : Machine) (S : Shaped m) where
           simultaneity = λ i j a b p q.
               let hi = has-of i a in
               let hj = has-of j b in
-              let s = I .simultaneity i j hi hj (subst (View m i j) (given-is j hj) (pair-view i hi j (properties.given (viewsOf m) j) p))
-              (subst (View m j i) (given-is i hi) (pair-view j hj i (properties.given (viewsOf m) i) q)) in
+              let s = I .simultaneity i j hi hj (subst (View m i j) (given-is j hj) (pair-view i hi j (properties.ownValue (viewsOf m) j) p))
+              (subst (View m j i) (given-is i hi) (pair-view j hj i (properties.ownValue (viewsOf m) i) q)) in
               (inside i j hi hj (s .0), inside j i hj hi (s .1));
         }
 

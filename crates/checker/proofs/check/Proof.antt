@@ -4,7 +4,7 @@ use mathlib.Core.Bool.{true, false}
 use borrow.Author.Needs.{needs}
 use Rattle.text.specs.Parts.{joined}
 use Rattle.findings.specs.declared.Found.{Found}
-use Rattle.findings.specs.Findings.{isFinding, ofOne, ofAll, ofPairs, findings, firstOf, checkOf}
+use Rattle.findings.specs.Findings.{isFinding, ofOne, ofOnes, ofPairs, findings, firstOf, checkOf}
 use Rattle.formats.proofs.Tests.{told}
 use Rattle.findings.proofs.First.{real-joined, real-ofOne, first-here, first-later}
 use Rattle.checker.proofs.check.Statement.{statement}
@@ -24,18 +24,18 @@ unfolding checkOf findings
 returns c =
     let v = c .before .before .before .args .v in
     let e = c .before .before .first-alone .ensures in
-    let t : isFinding (firstOf (ofAll v) .finding) ≡ true
+    let t : isFinding (firstOf (ofOnes v) .finding) ≡ true
     = ap (λ (f : Found). isFinding (f .finding)) (sym e) ∙ told (c .before .is-finding .ensures) (c .if1 .taken) in
-    e ∙ sym (first-here (ofAll v) (joined 1 32 (ofPairs v)) t)
+    e ∙ sym (first-here (ofOnes v) (joined 1 32 (ofPairs v)) t)
 
 returns-2 : tie.Need-returns-2
 unfolding checkOf findings
 returns-2 c =
     let v = c .before .before .before .before .args .v in
     let e = c .before .before .before .first-alone .ensures in
-    let t : isFinding (firstOf (ofAll v) .finding) ≡ false
+    let t : isFinding (firstOf (ofOnes v) .finding) ≡ false
     = ap (λ (f : Found). isFinding (f .finding)) (sym e) ∙ told (c .before .before .is-finding .ensures) (c .before .if1 .left) in
-    c .first-pair .ensures ∙ sym (first-later (ofAll v) (joined 1 32 (ofPairs v)) (real-joined 1 32 (ofOne v) (real-ofOne v)) t)
+    c .first-pair .ensures ∙ sym (first-later (ofOnes v) (joined 1 32 (ofPairs v)) (real-joined 1 32 (ofOne v) (real-ofOne v)) t)
 
 pub check-spec : {M : Type 1} → statement M
 check-spec =

@@ -4,14 +4,14 @@ use mathlib.Core.Path.{_≡_, refl, sym, _∙_}
 use native.Mathlib.Omega.{arith}
 use borrow.Author.Needs.{needs}
 use Rattle.text.specs.Parts.{joined}
-use Rattle.findings.specs.Findings.{ofOne, ofAll, firstOf}
+use Rattle.findings.specs.Findings.{ofOne, ofOnes, firstOf}
 use Rattle.formats.proofs.Tests.{told}
 use Rattle.checker.proofs.Loops.{one-here, one-later, none-left}
 use Rattle.checker.proofs.first_alone.Statement.{statement}
 use Rattle.checker.proofs.first_alone.Tie as tie
 
 abbrev Inv-loop : tie.InvT-loop
-Inv-loop v own i₀ i = (i ≤ 32) × (firstOf (joined (suc i) (32 - i) (ofOne v)) ≡ firstOf (ofAll v))
+Inv-loop v own i₀ i = (i ≤ 32) × (firstOf (joined (suc i) (32 - i) (ofOne v)) ≡ firstOf (ofOnes v))
 
 abbrev μ-loop : tie.MeasureT-loop
 μ-loop v own i₀ i = 32 - i
