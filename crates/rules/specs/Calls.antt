@@ -109,7 +109,7 @@ stepsOf (suc k) m p = onward (stepOf m p) (λ after. stepsOf k after p)
 
 -- rule 8: the call at level x makes the accesses that are left there and, unless the process has finished, calls itself at x - 1
 unfoldable pub finishFrom : ℕ → Machine → ℕ → Called
-finishFrom zero m p = done m
+finishFrom zero m p = refused NotAlone m
 finishFrom (suc x) m p =
     onward (stepsOf (m .n + 1 - madeOf (m .n) (stageOf m p)) m p)
     (λ after. elim (finished (stageOf after p)) [ true ↦ done after | false ↦ finishFrom x after p ])

@@ -4,7 +4,7 @@ use mathlib.Core.Logic.{_↔_, _⊎_, _≢_}
 use mathlib.Core.Bool.{Bool, true, false, not, _&&_}
 use mathlib.Core.List.{List, [], _∷_, _++_, List·Memᴰ}
 use Prim.Native.Nat.{ℕ, _+_, _-_, _*_, _≤_, _<_}
-use lib.Dec.{leb, ltb, eqb}
+use lib.Dec.{ltb}
 use lib.ListN.{replicate}
 use Rattle.sets.specs.Sets.{has, size}
 use Rattle.rules.specs.declared.Stage.the-variants.{Absent, Running, Finished, Crashed}
@@ -17,9 +17,8 @@ use Rattle.rules.specs.declared.Called.{Called}
 use Rattle.rules.specs.State.{processOf, stageOf, valueOf, rowOf, cellOf, finished, crashed, levelOf, madeOf, foundOf, accessesOf}
 use Rattle.rules.specs.State.{withProcess, withStage}
 use Rattle.rules.specs.Shape.{Held, Shaped, shaped}
-use Rattle.rules.specs.Alone.{finishLines, aloneOf}
-use Rattle.sets.specs.Lines.{Line, when, firstThat}
-use Rattle.rules.specs.Numbers.{always, enterLines, crashLines, stepLines}
+use Rattle.sets.specs.Lines.{Line}
+use Rattle.rules.specs.Numbers.{always, enterLines, crashLines, stepLines, newLines}
 use Rattle.rules.specs.Calls.{numberOf, accepted, done, refused, fresh, newOf, enterOf, crashOf, reading, write, stepOf, stepsOf}
 use Rattle.rules.specs.Calls.{finishOf, lookOf}
 
@@ -115,16 +114,13 @@ pub record RefusedHandsBack : Type 0 where
   pub new : (n : ℕ) → accepted (newOf n) ≡ false → newOf n .machine ≡ fresh 1
   pub look : (m : Machine) (p : ℕ) → numberOf (lookOf m p .answer) ≢ 0 → lookOf m p ≡ absentSight (lookOf m p .answer)
 
--- "Given exactly when": the number k is given where a line of that number applies and no line before it does; 0 where no line applies.
+-- "Given exactly when", of a call's lines in their order: the number k where a line of that number applies and no line before it does, and 0 where
+-- no line applies.
 abbrev pub none : List Line → Bool
 none [] = true
 none (l ∷ ls) = not (l .applies) && none ls
 
-abbrev pub numbered : List Line → Bool
-numbered [] = true
-numbered (l ∷ ls) = not (eqb (l .number) 0) && numbered ls
-
-pub record Given (k : ℕ) (ls : List Line) : Type 0 where
+pub record FirstLine (k : ℕ) (ls : List Line) : Type 0 where
   pub before : List Line
   pub line : Line
   pub after : List Line
@@ -133,12 +129,42 @@ pub record Given (k : ℕ) (ls : List Line) : Type 0 where
   pub applies : line .applies ≡ true
   pub earlier : none before ≡ true
 
-pub record FirstIsGiven : Type 0 where
-  pub some : (k : ℕ) → k ≢ 0 → (ls : List Line) → (firstThat ls ≡ k) ↔ Given k ls
-  pub nothing : (ls : List Line) → numbered ls ≡ true → (firstThat ls ≡ 0) ↔ (none ls ≡ true)
+pub record ExactlyWhen (a : Answer) (ls : List Line) : Type 0 where
+  pub some : (k : ℕ) → k ≢ 0 → (numberOf a ≡ k) ↔ FirstLine k ls
+  pub nothing : (numberOf a ≡ 0) ↔ (none ls ≡ true)
+
+-- Finishing alone (rule 8) "makes its steps until it finishes": so many single steps of p are accepted, and then it has finished.
+pub record Finishes (m : Machine) (p : ℕ) : Type 0 where
+  pub steps : ℕ
+  pub made : accepted (stepsOf steps m p) ≡ true
+  pub ended : finished (stageOf (stepsOf steps m p .machine) p) ≡ true
+
+-- "If one of these steps would be refused": so many are accepted, and the next is refused with 7.
+pub record Sticks (m : Machine) (p : ℕ) : Type 0 where
+  pub steps : ℕ
+  pub made : accepted (stepsOf steps m p) ≡ true
+  pub next : numberOf (stepOf (stepsOf steps m p .machine) p .answer) ≡ 7
+
+-- 1, 2, 4, 5 and 6 as for a crash; where none of them applies, "the call is refused with that number", or done.
+pub record ExactlyWhenAlone (m : Machine) (p : ℕ) : Type 0 where
+  pub some : (k : ℕ) → k ≢ 0 → k ≢ 7 → (numberOf (finishOf m p .answer) ≡ k) ↔ FirstLine k (crashLines m p)
+  pub seven : (numberOf (finishOf m p .answer) ≡ 7) ↔ ((none (crashLines m p) ≡ true) × Sticks m p)
+  pub nothing : (numberOf (finishOf m p .answer) ≡ 0) ↔ ((none (crashLines m p) ≡ true) × Finishes m p)
+
+-- Document 01's table of the numbers 0 to 8, call by call.
+pub record TableOfNumbers : Type 0 where
+  pub enter : (m : Machine) (p v : ℕ) → ExactlyWhen (enterOf m p v .answer) (enterLines m p)
+  pub step : (m : Machine) (p : ℕ) → ExactlyWhen (stepOf m p .answer) (stepLines m p)
+  pub crash : (m : Machine) (p : ℕ) → ExactlyWhen (crashOf m p .answer) (crashLines m p)
+  -- of every state that the declared types hold
+  pub finish : (m : Machine) → Held m → (p : ℕ) → ExactlyWhenAlone m p
+  -- "A look at a process refuses 1, 2"
+  pub look : (m : Machine) (p : ℕ) → ExactlyWhen (lookOf m p .answer) (always m p)
+  -- "A new machine is refused with 8 only"
+  pub new : (n : ℕ) → ExactlyWhen (newOf n .answer) (newLines n)
 
 -- "The lowest number that applies is given": the numbers of every call's lines ascend, and so the number of the first line that applies is the
--- lowest of all that apply. k is below the numbers of all the lines:
+-- lowest of all that apply. (Finishing alone has the lines of a crash and then 7, as a step has.) k is below the numbers of all the lines:
 abbrev pub below : ℕ → List Line → Bool
 below k [] = true
 below k (l ∷ ls) = ltb k (l .number) && below k ls
@@ -151,20 +177,8 @@ pub record LinesAscend : Type 0 where
   pub enter : (m : Machine) (p : ℕ) → ascending (enterLines m p) ≡ true
   pub step : (m : Machine) (p : ℕ) → ascending (stepLines m p) ≡ true
   pub crash : (m : Machine) (p : ℕ) → ascending (crashLines m p) ≡ true
-  pub finish : (m : Machine) (p : ℕ) → ascending (finishLines m p) ≡ true
   pub look : (m : Machine) (p : ℕ) → ascending (always m p) ≡ true
-  pub lowest-applies : (ls : List Line) → ascending ls ≡ true → (l : Line) → List·Memᴰ l ls → l .applies ≡ true → firstThat ls ≤ l .number
-
--- "The lowest number that applies is given for machine calls (1 to 7)." Finishing alone goes on after 6 with the numbers of its steps.
-pub record TableOfNumbers : Type 0 where
-  pub enter : (m : Machine) (p v : ℕ) → numberOf (enterOf m p v .answer) ≡ firstThat (enterLines m p)
-  pub step : (m : Machine) (p : ℕ) → numberOf (stepOf m p .answer) ≡ firstThat (stepLines m p)
-  pub crash : (m : Machine) (p : ℕ) → numberOf (crashOf m p .answer) ≡ firstThat (crashLines m p)
-  pub finish : (m : Machine) (p : ℕ) → firstThat (crashLines m p) ≢ 0 → numberOf (finishOf m p .answer) ≡ firstThat (crashLines m p)
-  -- "A look at a process refuses 1, 2"
-  pub look : (m : Machine) (p : ℕ) → numberOf (lookOf m p .answer) ≡ firstThat (always m p)
-  -- "A new machine is refused with 8 only"
-  pub new : (n : ℕ) → numberOf (newOf n .answer) ≡ firstThat (when 8 (not (leb 1 n && leb n 32)) ∷ [])
+  pub lowest : (k : ℕ) (ls : List Line) → ascending ls ≡ true → FirstLine k ls → (l : Line) → List·Memᴰ l ls → l .applies ≡ true → k ≤ l .number
 
 -- Demand 2: "An accepted enter or crash does to its task what rules 2, 3 and 6 of document 01 say, the batch number kept as it was given, and
 -- changes nothing else." `m′` is what a call of process p leaves of m.
@@ -220,22 +234,9 @@ pub record AccessesOfCalls : Type 0 where
       → accessesOf (m .n) (stageOf m p) ≡ (m .n + 1) * (m .n - size (foundOf (stageOf m p)) + 1)
   pub most : (m : Machine) → Shaped m → (p : ℕ) → 1 ≤ p → p ≤ m .n → accessesOf (m .n) (stageOf m p) ≤ m .n * (m .n + 1)
 
--- Rule 8: "Finishing alone: a call for one process makes its steps until it finishes. .. It equals that many single steps."
-pub record FinishedAlone (m : Machine) (p : ℕ) : Type 0 where
-  pub ended : finished (stageOf (finishOf m p .machine) p) ≡ true
-  pub steps : stepsOf (accessesOf (m .n) (stageOf (finishOf m p .machine) p) - accessesOf (m .n) (stageOf m p)) m p ≡ finishOf m p
-
--- "If one of these steps would be refused, the call is refused with that number and the state is as at entry." The number is 7.
-pub record RefusedAlone (m : Machine) (p : ℕ) : Type 0 where
-  pub steps : ℕ
-  pub made : accepted (stepsOf steps m p) ≡ true
-  pub next : stepOf (stepsOf steps m p .machine) p .answer ≡ finishOf m p .answer
-  pub number : finishOf m p .answer ≡ NotAlone
-  pub state : finishOf m p .machine ≡ m
-
--- for every state that the types allow; the lines 1, 2, 4, 5, 6 come first
+-- Rule 8: "It equals that many single steps": as many as finish the process, which are the accesses that it makes. A refused one leaves the state
+-- "as at entry": `RefusedHandsBack`.
 pub record FinishingAlone : Type 0 where
-  pub number : (m : Machine) → Held m → (p : ℕ) → numberOf (finishOf m p .answer) ≡ firstThat (finishLines m p)
-  pub accepts : (m : Machine) → Held m → (p : ℕ) → accepted (finishOf m p) ≡ true → FinishedAlone m p
-  pub refuses : (m : Machine) → Held m → (p : ℕ) → firstThat (crashLines m p) ≡ 0 → accepted (finishOf m p) ≡ false → RefusedAlone m p
-  pub closed : (m : Machine) → Held m → (p : ℕ) → finishOf m p ≡ aloneOf m p
+  pub equals : (m : Machine) → Held m → (p : ℕ) → accepted (finishOf m p) ≡ true → (s : Finishes m p) → finishOf m p ≡ stepsOf (s .steps) m p
+  pub count : (m : Machine) → Held m → (p : ℕ) → accepted (finishOf m p) ≡ true → (s : Finishes m p)
+      → accessesOf (m .n) (stageOf (finishOf m p .machine) p) ≡ accessesOf (m .n) (stageOf m p) + s .steps

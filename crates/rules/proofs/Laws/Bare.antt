@@ -8,7 +8,7 @@ use lib.Dec.{leb}
 use Rattle.rules.specs.declared.Stage.{Stage}
 use Rattle.rules.specs.declared.Stage.the-variants.{Absent, Running, Finished, Crashed}
 use Rattle.rules.specs.declared.Machine.{Machine}
-use Rattle.rules.specs.declared.Answer.the-variants.{NotShaped, NoProcess, NeverEntered, HasCrashed, HasFinished}
+use Rattle.rules.specs.declared.Answer.the-variants.{NotShaped, NoProcess, NeverEntered, HasCrashed, HasFinished, NotAlone}
 use Rattle.rules.specs.declared.Called.{Called}
 use Rattle.rules.specs.declared.Sight.{Sight}
 use Rattle.rules.specs.State.{stageOf, finished, madeOf}
@@ -36,7 +36,7 @@ bareSteps zero m p = done m
 bareSteps (suc k) m p = onward (bareStep m p) (λ after. bareSteps k after p)
 
 unfoldable pub bareFrom : ℕ → Machine → ℕ → Called
-bareFrom zero m p = done m
+bareFrom zero m p = refused NotAlone m
 bareFrom (suc x) m p =
     onward (bareSteps (m .n + 1 - madeOf (m .n) (stageOf m p)) m p)
     (λ after. elim (finished (stageOf after p)) [ true ↦ done after | false ↦ bareFrom x after p ])
