@@ -5,12 +5,12 @@ use mathlib.Core.Bool.{Bool, true, false, not, _&&_}
 use mathlib.Core.List.{List, [], _∷_, _++_, List·Memᴰ}
 use Prim.Native.Nat.{ℕ, _+_, _-_, _*_, _≤_, _<_}
 use lib.Dec.{ltb}
-use lib.ListN.{replicate}
+use lib.ListN.{length, getD, replicate}
 use Rattle.sets.specs.Sets.{has, size}
 use Rattle.rules.specs.declared.Stage.the-variants.{Absent, Running, Finished, Crashed}
 use Rattle.rules.specs.declared.Machine.{Machine}
 use Rattle.rules.specs.declared.Answer.{Answer}
-use Rattle.rules.specs.declared.Answer.the-variants.{NotAlone}
+use Rattle.rules.specs.declared.Answer.the-variants.{Done, NotAlone}
 use Rattle.rules.specs.declared.Standing.{Standing}
 use Rattle.rules.specs.declared.Sight.{Sight}
 use Rattle.rules.specs.declared.Called.{Called}
@@ -100,9 +100,9 @@ pub record WhatCallsDo : Type 0 where
   pub sticks : (m : Machine) (p : ℕ) → Valid m p → (f : ℕ) → stageOf m p ≡ Running 1 (m .n) f → size (atLast m 1 f) ≢ 1
       → stepOf m p ≡ refused NotAlone m
 
--- nothing is seen
-abbrev pub absentSight : Answer → Sight
-absentSight a = record { answer = a; standing = Standing.Absent; level = 0; accesses = 0; view = 0; values = replicate 32 0 }
+-- a look that gives no view: all that stands beside it is 0
+abbrev pub noView : Answer → Standing → ℕ → ℕ → Sight
+noView a s x k = record { answer = a; standing = s; level = x; accesses = k; view = 0; values = replicate 32 0 }
 
 -- Demand 1: "A refused machine call hands back the state it was given." "A new machine is refused with 8 only, and then a fresh machine of one
 -- process is returned." "A refused look gives absent, 0, 0 and no view."
@@ -112,7 +112,28 @@ pub record RefusedHandsBack : Type 0 where
   pub crash : (m : Machine) (p : ℕ) → accepted (crashOf m p) ≡ false → crashOf m p .machine ≡ m
   pub finish : (m : Machine) (p : ℕ) → accepted (finishOf m p) ≡ false → finishOf m p .machine ≡ m
   pub new : (n : ℕ) → accepted (newOf n) ≡ false → newOf n .machine ≡ fresh 1
-  pub look : (m : Machine) (p : ℕ) → numberOf (lookOf m p .answer) ≢ 0 → lookOf m p ≡ absentSight (lookOf m p .answer)
+  pub look : (m : Machine) (p : ℕ) → numberOf (lookOf m p .answer) ≢ 0 → lookOf m p ≡ noView (lookOf m p .answer) Standing.Absent 0 0
+
+-- "A look at a process refuses 1, 2 and otherwise gives its stage, level, accesses and, if finished, its view": the accesses by rule 7, and beside the
+-- view the value of each of its processes, out of the row of its level, process i's at i - 1, and 0 at every other place.
+pub record ShowsView (m : Machine) (x w : ℕ) (l : Sight) : Type 0 where
+  pub answer : l .answer ≡ Done
+  pub standing : l .standing ≡ Standing.Finished
+  pub level : l .level ≡ x
+  pub accesses : l .accesses ≡ (m .n + 1) * (m .n - x) + (m .n + 1)
+  pub view : l .view ≡ w
+  pub places : length (l .values) ≡ 32
+  pub value : (i : ℕ) → has w i ≡ true → getD (l .values) (i - 1) 0 ≡ cellOf m x i
+  pub other : (i : ℕ) → 1 ≤ i → i ≤ 32 → has w i ≡ false → getD (l .values) (i - 1) 0 ≡ 0
+
+pub record WhatLooksShow : Type 0 where
+  -- "the level of an absent process is 0"
+  pub absent : (m : Machine) (p : ℕ) → Valid m p → stageOf m p ≡ Absent → lookOf m p ≡ noView Done Standing.Absent 0 0
+  pub running : (m : Machine) (p : ℕ) → Valid m p → (x k f : ℕ) → stageOf m p ≡ Running x k f
+      → lookOf m p ≡ noView Done Standing.Running x ((m .n + 1) * (m .n - x) + k)
+  pub crashed : (m : Machine) (p : ℕ) → Valid m p → (x k f : ℕ) → stageOf m p ≡ Crashed x k f
+      → lookOf m p ≡ noView Done Standing.Crashed x ((m .n + 1) * (m .n - x) + k)
+  pub finished : (m : Machine) (p : ℕ) → Valid m p → (x w : ℕ) → stageOf m p ≡ Finished x w → ShowsView m x w (lookOf m p)
 
 -- "Given exactly when", of a call's lines in their order: the number k where a line of that number applies and no line before it does, and 0 where
 -- no line applies.
