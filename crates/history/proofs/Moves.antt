@@ -15,9 +15,10 @@ use Rattle.rules.specs.declared.Machine.{Machine}
 use Rattle.rules.specs.State.{nobody, processOf, stageOf, valueOf, rowOf, withProcess, withRegister}
 use Rattle.rules.specs.Shape.{Held}
 use Rattle.rules.specs.Calls.{accepted, fresh, enterOf, stepOf, crashOf, reading}
-use Rattle.rules.specs.Statements.{Meets, Valid, DidStep, did-write, did-read, did-finish, did-fall, atLast}
+use Rattle.rules.specs.Statements.{Meets, Valid, atLast}
 use Rattle.rules.proofs.Laws.Small.{equal-or-not}
 use Rattle.rules.proofs.Laws.Stores.{process-same}
+use Rattle.rules.proofs.Laws.Did.{DidStep, did-write, did-read, did-finish, did-fall}
 use Rattle.rules.proofs.Laws.Did.{what-calls-did}
 use Rattle.rules.proofs.Laws.Refused.{refused-hands-back}
 use Rattle.rules.proofs.Laws.Keeps.{every-state-meets, held-register}

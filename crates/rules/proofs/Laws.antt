@@ -10,6 +10,7 @@ pub mod Steps
 pub mod Keeps
 pub mod Effects
 pub mod Accesses
+pub mod Reads
 pub mod Level
 pub mod Alone
 pub mod Finishing

@@ -1,25 +1,25 @@
 -- What is proved of the machine's definitions, with the sentence of document 01 above each statement. proofs/Laws proves them.
 use mathlib.Core.Path.{_≡_}
 use mathlib.Core.Logic.{_↔_, _⊎_, _≢_}
-use mathlib.Core.Bool.{Bool, true, false, not, _&&_}
+use mathlib.Core.Bool.{Bool, true, false, not, _&&_, _||_}
 use mathlib.Core.List.{List, [], _∷_, _++_, List·Memᴰ}
 use Prim.Native.Nat.{ℕ, _+_, _-_, _*_, _≤_, _<_}
-use lib.Dec.{ltb}
+use lib.Dec.{ltb, eqb}
 use lib.ListN.{length, getD, replicate}
 use Rattle.sets.specs.Sets.{has, size}
+use Rattle.rules.specs.declared.Stage.{Stage}
 use Rattle.rules.specs.declared.Stage.the-variants.{Absent, Running, Finished, Crashed}
 use Rattle.rules.specs.declared.Machine.{Machine}
 use Rattle.rules.specs.declared.Answer.{Answer}
 use Rattle.rules.specs.declared.Answer.the-variants.{Done, NotAlone}
 use Rattle.rules.specs.declared.Standing.{Standing}
 use Rattle.rules.specs.declared.Sight.{Sight}
-use Rattle.rules.specs.declared.Called.{Called}
-use Rattle.rules.specs.State.{processOf, stageOf, valueOf, rowOf, cellOf, finished, crashed, levelOf, madeOf, foundOf, accessesOf}
-use Rattle.rules.specs.State.{withProcess, withStage}
+use Rattle.rules.specs.State.{processOf, stageOf, valueOf, rowOf, cellOf, entered, finished, crashed, levelOf, madeOf, foundOf, accessesOf}
+use Rattle.rules.specs.State.{withProcess, withStage, withRegister}
 use Rattle.rules.specs.Shape.{Held, Shaped, shaped}
 use Rattle.sets.specs.Lines.{Line}
 use Rattle.rules.specs.Numbers.{always, enterLines, crashLines, stepLines, newLines}
-use Rattle.rules.specs.Calls.{numberOf, accepted, done, refused, fresh, newOf, enterOf, crashOf, reading, write, stepOf, stepsOf}
+use Rattle.rules.specs.Calls.{numberOf, accepted, done, refused, fresh, newOf, enterOf, crashOf, reading, stepOf, stepsOf}
 use Rattle.rules.specs.Calls.{finishOf, lookOf}
 
 -- Shape. The test that the code computes is the record of document 01's paragraph.
@@ -50,47 +50,24 @@ pub record Valid (m : Machine) (p : ℕ) : Type 0 where
 abbrev pub atLast : Machine → ℕ → ℕ → ℕ
 atLast m x f = reading (rowOf m x) (m .n) f
 
--- What an accepted call did. Rule 3: "Entering gives a process its value and puts it at level n with no access made. It touches no register."
-pub record DidEnter (m : Machine) (p v : ℕ) (c : Called) : Type 0 where
-  pub was : stageOf m p ≡ Absent
-  pub left : c ≡ done (withProcess m p (record { stage = Running (m .n) 0 0; value = v }))
+-- "A new machine": of n processes, none of which has entered.
+pub record NewMachine : Type 0 where
+  pub made : (n : ℕ) → 1 ≤ n → n ≤ 32 → newOf n ≡ done (fresh n)
+  pub absent : (n p : ℕ) → stageOf (fresh n) p ≡ Absent
 
--- Rule 6: "A crashed process never moves again. What it wrote stays."
-pub record DidCrash (m : Machine) (p : ℕ) (c : Called) : Type 0 where
-  pub level : ℕ
-  pub made : ℕ
-  pub found : ℕ
-  pub was : stageOf m p ≡ Running level made found
-  pub left : c ≡ done (withStage m p (Crashed level made found))
+-- Rule 4: "A read finds what stands there at that step." Register j is added to those found exactly if it stands filled in the row.
+abbrev pub ReadFinds : Type 0
+ReadFinds = (row j found i : ℕ) → has (reading row j found) i ≡ (has found i || (eqb i j && has row i))
 
--- Rules 4 and 5: the write; a read that is not the last; the last read, which finishes or goes to the next lower level.
-pub data DidStep (m : Machine) (p : ℕ) (c : Called) : Type 0 where
-  did-write : (x f : ℕ) → stageOf m p ≡ Running x 0 f → c ≡ done (write m p x f) → DidStep m p c
-  did-read : (x k f : ℕ) → stageOf m p ≡ Running x k f → 1 ≤ k → k < m .n
-      → c ≡ done (withStage m p (Running x (k + 1) (reading (rowOf m x) k f))) → DidStep m p c
-  did-finish : (x f : ℕ) → stageOf m p ≡ Running x (m .n) f → size (atLast m x f) ≡ x
-      → c ≡ done (withStage m p (Finished x (atLast m x f))) → DidStep m p c
-  did-fall : (x f : ℕ) → stageOf m p ≡ Running x (m .n) f → size (atLast m x f) ≢ x → 2 ≤ x
-      → c ≡ done (withStage m p (Running (x - 1) 0 0)) → DidStep m p c
-
--- "step at level 1 whose last read gives a count other than 1"
-pub record DidStick (m : Machine) (p : ℕ) (c : Called) : Type 0 where
-  pub found : ℕ
-  pub was : stageOf m p ≡ Running 1 (m .n) found
-  pub others : size (atLast m 1 found) ≢ 1
-  pub left : c ≡ refused NotAlone m
-
-pub record WhatCallsDid : Type 0 where
-  pub enter : (m : Machine) (p v : ℕ) → accepted (enterOf m p v) ≡ true → Valid m p × DidEnter m p v (enterOf m p v)
-  pub crash : (m : Machine) (p : ℕ) → accepted (crashOf m p) ≡ true → Valid m p × DidCrash m p (crashOf m p)
-  pub step : (m : Machine) (p : ℕ) → accepted (stepOf m p) ≡ true → Valid m p × DidStep m p (stepOf m p)
-
--- The same from what stands to what the call does.
+-- What a call does, from what stands. Rule 3: "Entering gives a process its value and puts it at level n with no access made." Rule 6: a crash leaves
+-- level, accesses and found registers. Rules 4 and 5: the write; a read that is not the last; the last read, which finishes, goes to the next lower
+-- level, or is refused with 7.
 pub record WhatCallsDo : Type 0 where
   pub enters : (m : Machine) (p : ℕ) → Valid m p → (v : ℕ) → stageOf m p ≡ Absent
       → enterOf m p v ≡ done (withProcess m p (record { stage = Running (m .n) 0 0; value = v }))
   pub crashes : (m : Machine) (p : ℕ) → Valid m p → (x k f : ℕ) → stageOf m p ≡ Running x k f → crashOf m p ≡ done (withStage m p (Crashed x k f))
-  pub writes : (m : Machine) (p : ℕ) → Valid m p → (x f : ℕ) → stageOf m p ≡ Running x 0 f → stepOf m p ≡ done (write m p x f)
+  pub writes : (m : Machine) (p : ℕ) → Valid m p → (x f : ℕ) → stageOf m p ≡ Running x 0 f
+      → stepOf m p ≡ done (withStage (withRegister m x p (valueOf m p)) p (Running x 1 f))
   pub reads : (m : Machine) (p : ℕ) → Valid m p → (x k f : ℕ) → stageOf m p ≡ Running x k f → 1 ≤ k → k < m .n
       → stepOf m p ≡ done (withStage m p (Running x (k + 1) (reading (rowOf m x) k f)))
   pub finishes : (m : Machine) (p : ℕ) → Valid m p → (x f : ℕ) → stageOf m p ≡ Running x (m .n) f → size (atLast m x f) ≡ x
@@ -242,9 +219,12 @@ pub record EffectsOfCalls : Type 0 where
   pub crash : (m : Machine) → Held m → (p : ℕ) → accepted (crashOf m p) ≡ true → CrashEffect m (crashOf m p .machine) p
   pub step : (m : Machine) → Held m → (p : ℕ) → accepted (stepOf m p) ≡ true → StepEffect m (stepOf m p .machine) p
 
--- Rule 7: "Accesses of a process = (n+1)(n-level) + accesses at this level, where a finished process has n+1 at its level." Each accepted step is
--- one access more; an enter and a crash make none. A process makes at most n(n+1).
+-- Rule 7: "Accesses of a process = (n+1)(n-level) + accesses at this level, where a finished process has n+1 at its level. Absent: 0." Each accepted
+-- step is one access more; an enter and a crash make none. A process makes at most n(n+1).
 pub record AccessesOfCalls : Type 0 where
+  pub sum : (n : ℕ) (s : Stage) → entered s ≡ true → accessesOf n s ≡ (n + 1) * (n - levelOf s) + madeOf n s
+  pub whole : (n x w : ℕ) → madeOf n (Finished x w) ≡ n + 1
+  pub absent : (n : ℕ) → accessesOf n Absent ≡ 0
   pub enter : (m : Machine) → Held m → (p v : ℕ) → accepted (enterOf m p v) ≡ true
       → (accessesOf (m .n) (stageOf m p) ≡ 0) × (accessesOf (m .n) (stageOf (enterOf m p v .machine) p) ≡ 0)
   pub step : (m : Machine) → Held m → (p : ℕ) → accepted (stepOf m p) ≡ true

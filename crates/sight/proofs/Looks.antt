@@ -14,7 +14,7 @@ use Rattle.rules.specs.Shape.{shaped}
 use Rattle.rules.specs.Calls.{valuesOf, looked, blindly, unseen, lookOf}
 use Rattle.rules.proofs.Laws.Looks.{no-values}
 use Rattle.moves.specs.declared.Asked.{Asked}
-use Rattle.moves.specs.Asked.{askedOf}
+use Rattle.moves.specs.Coded.Asked.{askedOf}
 use Rattle.moves.proofs.Laws.{answerIn, isRecord}
 
 pub refused-look : (m : Machine) (p : ℕ) (a : Answer) → askedOf m p ≡ Asked.Refused a → lookOf m p ≡ unseen a

@@ -10,7 +10,7 @@ use Rattle.rules.specs.declared.Called.{Called}
 use Rattle.rules.specs.declared.Landing.the-variants.{Lands}
 use Rattle.rules.specs.State.{stageOf, rowOf, withProcess}
 use Rattle.rules.specs.Calls.{done, finishAt, finishOf}
-use Rattle.rules.specs.Alone.{landing, filledDown, topRow, landed, aloneAt, aloneOf}
+use Rattle.rules.specs.Coded.Alone.{landing, filledDown, topRow, landed, aloneAt, aloneOf}
 use Rattle.rules.proofs.Laws.Did.{goes-on}
 use Rattle.rules.proofs.Laws.Alone.{alone-is-finishing}
 use Rattle.rules.proofs.Typed.{machine-held}

@@ -18,7 +18,7 @@ use Rattle.rules.specs.Shape.{Held, shaped}
 use Rattle.rules.specs.Calls.{numberOf, done, refused, finishFrom, orAsAtEntry, finishAt, finishOf}
 use Rattle.rules.specs.declared.Landing.{Landing}
 use Rattle.rules.specs.declared.Landing.the-variants.{Lands, Stuck}
-use Rattle.rules.specs.Alone.{gathered, landing, filledDown, topRow, landed, aloneAt, aloneOf, AloneIsFinishing}
+use Rattle.rules.specs.Coded.Alone.{gathered, landing, filledDown, topRow, landed, aloneAt, aloneOf, AloneIsFinishing}
 use Rattle.rules.specs.Statements.{Valid}
 use Rattle.rules.proofs.Laws.Small.{and-first, and-second, equal-or-not}
 use Rattle.rules.proofs.Laws.Stores.{row-other}

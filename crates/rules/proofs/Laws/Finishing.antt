@@ -16,7 +16,7 @@ use Rattle.rules.specs.declared.Answer.the-variants.{NotShaped, NoProces
 use Rattle.rules.specs.declared.Called.{Called}
 use Rattle.rules.specs.State.{stageOf, rowOf, entered, finished, crashed, accessesOf}
 use Rattle.rules.specs.Shape.{Held, shaped}
-use Rattle.rules.specs.Alone.{gathered}
+use Rattle.rules.specs.Coded.Alone.{gathered}
 use Rattle.rules.specs.Calls.{numberOf, accepted, refused, crashOf, stepAt, stepOf, stepsOf, finishFrom, orAsAtEntry, finishAt, finishOf}
 use Rattle.rules.specs.Numbers.{crashLines}
 use Rattle.rules.specs.Statements.{Valid, Meets, none, FirstLine, Finishes, Sticks, ExactlyWhenAlone, FinishingAlone}

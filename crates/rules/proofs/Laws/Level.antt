@@ -8,7 +8,7 @@ use lib.Dec.{leb, eqb, lit≤}
 use lib.Seq.{set-set}
 use borrow.Author.Tests.{leb-true, le-leb, ne-eqb}
 use Rattle.sets.specs.Sets.{known, has, plus, size, setOf}
-use Rattle.sets.proofs.Laws.{same-truth, has-known, true-known, has-plus-same, has-plus-keeps, has-plus-cases, has-setOf, setOf-below}
+use Rattle.sets.proofs.Laws.{same-truth, has-known, true-known, has-plus-cases, has-setOf, setOf-below}
 use Rattle.sets.proofs.Laws.{members-equal, plus-below}
 use Rattle.rules.specs.declared.Stage.{Stage}
 use Rattle.rules.specs.declared.Stage.the-variants.{Running, Finished}
@@ -19,7 +19,7 @@ use Rattle.rules.specs.declared.Called.{Called}
 use Rattle.rules.specs.State.{processOf, stageOf, valueOf, rowOf, finished, madeOf, foundOf, withProcess, withRegister}
 use Rattle.rules.specs.Shape.{Held, Going}
 use Rattle.rules.specs.Calls.{numberOf, done, reading, stepOf, onward, stepsOf, finishFrom}
-use Rattle.rules.specs.Alone.{gathered}
+use Rattle.rules.specs.Coded.Alone.{gathered}
 use Rattle.rules.specs.Statements.{Meets, Valid}
 use Rattle.rules.proofs.Laws.Small.{or-true, or-left, or-right, both, and-first, and-second, not-both, cond-false, equal-or-not}
 use Rattle.rules.proofs.Laws.Small.{at-most-or-above}
@@ -28,25 +28,12 @@ use Rattle.rules.proofs.Laws.Shape.{record-shaped}
 use Rattle.rules.proofs.Laws.Did.{running, what-calls-do}
 use Rattle.rules.proofs.Laws.Steps.{onward-refused, steps-first, steps-one, next, next-done, next-on}
 use Rattle.rules.proofs.Laws.Keeps.{every-state-meets, keep-steps, reading-has, reading-below, held-register}
+use Rattle.rules.proofs.Laws.Reads.{reading-keeps, reading-finds}
 
 -- What is read from register k on, over 1 + d registers.
 unfoldable readings : ℕ → ℕ → ℕ → ℕ → ℕ
 readings row k zero f = reading row k f
 readings row k (suc d) f = readings row (k + 1) d (reading row k f)
-
-reading-keeps : (row j f i : ℕ) → has f i ≡ true → has (reading row j f) i ≡ true
-unfolding reading
-reading-keeps row j f i t = go (has row j)
-  where
-    go : (b : Bool) → has (cond b (plus f j) f) i ≡ true
-    go true = has-plus-keeps f j i t
-    go false = t
-
-reading-finds : (row j f : ℕ) → has row j ≡ true → has (reading row j f) j ≡ true
-unfolding reading
-reading-finds row j f t =
-    let k = has-known row j t in
-    ap (λ b. has (cond b (plus f j) f) j) t ∙ has-plus-same f j (k .0) (k .1)
 
 readings-below : (row k d f : ℕ) → f < 2 ^ 32 → readings row k d f < 2 ^ 32
 unfolding readings
