@@ -88,7 +88,7 @@ pub fn finish(mut m: Machine, p: u32) -> Called
                     };
                 }
                 Landing::Stuck => {
-                    answer = Answer::NotAlone;
+                    answer = Answer::NoLevelBelow;
                 }
             }
         }

@@ -21,7 +21,7 @@ use Rattle.rules.proofs.Laws.Table.{table-of-numbers}
 use Rattle.rules.proofs.Laws.Steps.{steps-on, steps-off}
 use Rattle.rules.proofs.Laws.Accesses.{accesses-of-calls}
 use Rattle.rules.proofs.Laws.Finishing.{finishes-unless-sticks, finishing-alone}
-use Rattle.history.specs.Runs.{Call, steps, crashes, answer, from, runs, tally, stepOfTaken, acceptedSteps}
+use Rattle.history.specs.Runs.{Call, steps, crashes, answer, from, runs, tally, acceptedStepOf, acceptedSteps}
 use Rattle.history.specs.Theorems.{AloneNeverOneNorSeven, FinishesAlone, AloneFinishes, WaitFree}
 use Rattle.history.proofs.Appends.{from-append, tally-append}
 use Rattle.history.proofs.Moves.{every-state-shaped}
@@ -32,7 +32,7 @@ use Rattle.history.proofs.Answers.{answer-fine}
 
 -- Steps one after another are calls of a list.
 pub steps-calls : (k : ℕ) (m : Machine) (p : ℕ) → accepted (stepsOf k m p) ≡ true
-    → (stepsOf k m p .machine ≡ from m (replicate k (steps p))) × (tally (stepOfTaken p) m (replicate k (steps p)) ≡ k)
+    → (stepsOf k m p .machine ≡ from m (replicate k (steps p))) × (tally (acceptedStepOf p) m (replicate k (steps p)) ≡ k)
 unfolding stepsOf from tally
 steps-calls zero m p a = (refl, refl)
 steps-calls (suc k) m p a = go (accepted (stepOf m p)) refl (steps-calls k (stepOf m p .machine) p)
@@ -43,9 +43,9 @@ steps-calls (suc k) m p a = go (accepted (stepOf m p)) refl (steps-calls k (step
     go : (b : Bool) → accepted (stepOf m p) ≡ b
         → (accepted (stepsOf k (stepOf m p .machine) p) ≡ true
         → (stepsOf k (stepOf m p .machine) p .machine ≡ from (stepOf m p .machine) (replicate k (steps p)))
-        × (tally (stepOfTaken p) (stepOf m p .machine) (replicate k (steps p)) ≡ k))
+        × (tally (acceptedStepOf p) (stepOf m p .machine) (replicate k (steps p)) ≡ k))
         → (stepsOf (suc k) m p .machine ≡ from (stepOf m p .machine) (replicate k (steps p)))
-        × (tick (stepOfTaken p (steps p) (stepOf m p)) + tally (stepOfTaken p) (stepOf m p .machine) (replicate k (steps p)) ≡ suc k)
+        × (tick (acceptedStepOf p (steps p) (stepOf m p)) + tally (acceptedStepOf p) (stepOf m p .machine) (replicate k (steps p)) ≡ suc k)
     go true t further =
         let r = further (sym (ap accepted (steps-on k m p t)) ∙ a) in (
           ap (λ c. c .machine) (steps-on k m p t) ∙ r .0,
@@ -94,7 +94,7 @@ alone-finishes n lo hi cs p lp hp came alive going = go (stageOf (runs n cs) p) 
     go (Crashed x k f) e a b c = absurd (false≢true (sym b))
     go (Running x k f) e a b c =
         record {
-          taken = yes-taken;
+          accepts = accepts;
           more = more;
           calls = left;
           ended = subst (λ m. finished (stageOf m p) ≡ true) (as-calls .0 ∙ sym (from-append (fresh n) cs ds)) (done .ended);
@@ -110,8 +110,8 @@ alone-finishes n lo hi cs p lp hp came alive going = go (stageOf (runs n cs) p) 
         done : Finishes (runs n cs) p
         done = finishes-unless-sticks (runs n cs) (I .meets .held) p no-line (never-sticks (runs n cs) I p)
 
-        yes-taken : accepted (finishOf (runs n cs) p) ≡ true
-        yes-taken =
+        accepts : accepted (finishOf (runs n cs) p) ≡ true
+        accepts =
             eq-eqb (numberOf (finishOf (runs n cs) p .answer)) 0
             (table-of-numbers .finish (runs n cs) (I .meets .held) p .nothing .1 (no-line, done))
 
@@ -121,16 +121,16 @@ alone-finishes n lo hi cs p lp hp came alive going = go (stageOf (runs n cs) p) 
         ds : List Call
         ds = replicate more (steps p)
 
-        as-calls : (stepsOf more (runs n cs) p .machine ≡ from (runs n cs) ds) × (tally (stepOfTaken p) (runs n cs) ds ≡ more)
+        as-calls : (stepsOf more (runs n cs) p .machine ≡ from (runs n cs) ds) × (tally (acceptedStepOf p) (runs n cs) ds ≡ more)
         as-calls = steps-calls more (runs n cs) p (done .made)
 
         left : finishOf (runs n cs) p .machine ≡ runs n (cs ++ ds)
         left =
-            ap (λ c. c .machine) (finishing-alone .equals (runs n cs) (I .meets .held) p yes-taken done) ∙ as-calls .0
+            ap (λ c. c .machine) (finishing-alone .equals (runs n cs) (I .meets .held) p accepts done) ∙ as-calls .0
             ∙ sym (from-append (fresh n) cs ds)
 
         all : acceptedSteps n (cs ++ ds) p ≡ acceptedSteps n cs p + more
-        all = tally-append (stepOfTaken p) (fresh n) cs ds ∙ ap (λ k. acceptedSteps n cs p + k) (as-calls .1)
+        all = tally-append (acceptedStepOf p) (fresh n) cs ds ∙ ap (λ k. acceptedSteps n cs p + k) (as-calls .1)
 
         most : acceptedSteps n (cs ++ ds) p ≤ n * (n + 1)
         most = subst (λ k. k ≤ n * (n + 1)) (accesses-counted n lo hi (cs ++ ds) p lp hp) bounded

@@ -11,7 +11,7 @@ use Rattle.rules.specs.declared.Stage.the-variants.{Absent, Running, Finished, 
 use Rattle.rules.specs.declared.Process.{Process}
 use Rattle.rules.specs.declared.Machine.{Machine}
 use Rattle.rules.specs.declared.Answer.{Answer}
-use Rattle.rules.specs.declared.Answer.the-variants.{Done, NotShaped, NoProcess, NeverEntered, HasCrashed, HasFinished, NotAlone}
+use Rattle.rules.specs.declared.Answer.the-variants.{Done, NotShaped, NoProcess, NeverEntered, HasCrashed, HasFinished, NoLevelBelow}
 use Rattle.rules.specs.declared.Called.{Called}
 use Rattle.rules.specs.State.{nobody, processOf, stageOf, valueOf, rowOf, withStage}
 use Rattle.rules.specs.Shape.{ShapedStage, shaped}
@@ -164,10 +164,10 @@ access-moves m p x k f = go (eqb k 0) (ltb k (m .n)) (eqb (size g) x) (eqb x 1)
     go : (z a b d : Bool)
         → cond z (done (write m p x f))
         (cond a (done (withStage m p (Running x (k + 1) g)))
-        (cond b (done (withStage m p (Finished x g))) (cond d (refused NotAlone m) (done (withStage m p (Running (x - 1) 0 0))))))
+        (cond b (done (withStage m p (Finished x g))) (cond d (refused NoLevelBelow m) (done (withStage m p (Running (x - 1) 0 0))))))
         ≡ moved m p (cond z (Move.Write x f v)
         (cond a (Move.Turn (Running x (k + 1) g) v)
-        (cond b (Move.Turn (Finished x g) v) (cond d (Move.Refused NotAlone) (Move.Turn (Running (x - 1) 0 0) v)))))
+        (cond b (Move.Turn (Finished x g) v) (cond d (Move.Refused NoLevelBelow) (Move.Turn (Running (x - 1) 0 0) v)))))
     go true a b d = refl
     go false true b d = refl
     go false false true d = refl
@@ -218,7 +218,7 @@ reads-only : (n row x k f v : ℕ) → isWrite (afterRead n row x k f v) ≡ fal
 reads-only n row x k f v = go (ltb k n) (eqb (size (reading row k f)) x) (eqb x 1)
   where
     go : (a b d : Bool) → isWrite (cond a (Move.Turn (Running x (k + 1) (reading row k f)) v)
-        (cond b (Move.Turn (Finished x (reading row k f)) v) (cond d (Move.Refused NotAlone) (Move.Turn (Running (x - 1) 0 0) v)))) ≡ false
+        (cond b (Move.Turn (Finished x (reading row k f)) v) (cond d (Move.Refused NoLevelBelow) (Move.Turn (Running (x - 1) 0 0) v)))) ≡ false
     go true b d = refl
     go false true d = refl
     go false false true = refl

@@ -123,7 +123,7 @@ fn after_read(n: u32, row: u32, level: u32, made: u32, found: u32, value: u32) -
         };
     }
     if level == 1 {
-        return Move::Refused(Answer::NotAlone);
+        return Move::Refused(Answer::NoLevelBelow);
     }
     Move::Turn {
         stage: Stage::Running {

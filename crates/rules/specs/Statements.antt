@@ -11,7 +11,7 @@ use Rattle.rules.specs.declared.Stage.{Stage}
 use Rattle.rules.specs.declared.Stage.the-variants.{Absent, Running, Finished, Crashed}
 use Rattle.rules.specs.declared.Machine.{Machine}
 use Rattle.rules.specs.declared.Answer.{Answer}
-use Rattle.rules.specs.declared.Answer.the-variants.{Done, NotAlone}
+use Rattle.rules.specs.declared.Answer.the-variants.{Done, NoLevelBelow}
 use Rattle.rules.specs.declared.Standing.{Standing}
 use Rattle.rules.specs.declared.Sight.{Sight}
 use Rattle.rules.specs.State.{processOf, stageOf, valueOf, rowOf, cellOf, entered, finished, crashed, levelOf, madeOf, foundOf, accessesOf}
@@ -75,7 +75,7 @@ pub record WhatCallsDo : Type 0 where
   pub falls : (m : Machine) (p : ℕ) → Valid m p → (x f : ℕ) → stageOf m p ≡ Running x (m .n) f → size (atLast m x f) ≢ x → 2 ≤ x
       → stepOf m p ≡ done (withStage m p (Running (x - 1) 0 0))
   pub sticks : (m : Machine) (p : ℕ) → Valid m p → (f : ℕ) → stageOf m p ≡ Running 1 (m .n) f → size (atLast m 1 f) ≢ 1
-      → stepOf m p ≡ refused NotAlone m
+      → stepOf m p ≡ refused NoLevelBelow m
 
 -- a look that gives no view: all that stands beside it is 0
 abbrev pub noView : Answer → Standing → ℕ → ℕ → Sight

@@ -6,7 +6,7 @@ use lib.Dec.{ltb, eqb}
 use Rattle.sets.specs.Sets.{size}
 use Rattle.rules.specs.declared.Stage.the-variants.{Running, Finished}
 use Rattle.rules.specs.declared.Machine.{Machine}
-use Rattle.rules.specs.declared.Answer.the-variants.{NotAlone}
+use Rattle.rules.specs.declared.Answer.the-variants.{NoLevelBelow}
 use Rattle.rules.specs.declared.Called.{Called}
 use Rattle.rules.specs.State.{rowOf, withProcess, withRegister}
 use Rattle.rules.specs.Calls.{done, refused, reading, stepOf}
@@ -19,7 +19,7 @@ abbrev pub afterRead : ℕ → ℕ → ℕ → ℕ → ℕ → ℕ → Move
 afterRead n row x k f v =
     cond (ltb k n) (Move.Turn (Running x (k + 1) (reading row k f)) v)
     (cond (eqb (size (reading row k f)) x) (Move.Turn (Finished x (reading row k f)) v)
-    (cond (eqb x 1) (Move.Refused NotAlone) (Move.Turn (Running (x - 1) 0 0) v)))
+    (cond (eqb x 1) (Move.Refused NoLevelBelow) (Move.Turn (Running (x - 1) 0 0) v)))
 
 -- rule 4: the first access at a level writes
 abbrev pub moveIn : Machine → Mover → Move

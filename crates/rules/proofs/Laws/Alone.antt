@@ -11,7 +11,7 @@ use Rattle.rules.specs.declared.Stage.{Stage}
 use Rattle.rules.specs.declared.Stage.the-variants.{Absent, Running, Finished, Crashed}
 use Rattle.rules.specs.declared.Process.{Process}
 use Rattle.rules.specs.declared.Machine.{Machine}
-use Rattle.rules.specs.declared.Answer.the-variants.{NotShaped, NoProcess, NotAlone}
+use Rattle.rules.specs.declared.Answer.the-variants.{NotShaped, NoProcess, NoLevelBelow}
 use Rattle.rules.specs.declared.Called.{Called}
 use Rattle.rules.specs.State.{stageOf, valueOf, rowOf, withProcess, withRegister}
 use Rattle.rules.specs.Shape.{Held, shaped}
@@ -102,7 +102,7 @@ base-row m p x k y lx ly ne = go (eqb k 0)
 -- How finishing alone ends from level x.
 abbrev Ends : Machine → ℕ → ℕ → ℕ → Called → Landing → Type 0
 Ends m p x k c (Lands y w) = (y ≤ x) × (c ≡ landed m p (topRow x k) (Lands y w))
-Ends m p x k c Stuck = c .answer ≡ NotAlone
+Ends m p x k c Stuck = c .answer ≡ NoLevelBelow
 
 finish-here : (x : ℕ) (m : Machine) (p k f : ℕ) → Runs m p (suc x) k f → size (gathered (rowOf m (suc x)) p k f) ≡ suc x
     → Ends m p (suc x) k (finishFrom (suc x) m p) (landing (rowOf m) p (suc x) k f)

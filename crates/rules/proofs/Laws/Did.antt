@@ -10,7 +10,7 @@ use Rattle.sets.specs.Sets.{size}
 use Rattle.rules.specs.declared.Stage.{Stage}
 use Rattle.rules.specs.declared.Stage.the-variants.{Absent, Running, Finished, Crashed}
 use Rattle.rules.specs.declared.Machine.{Machine}
-use Rattle.rules.specs.declared.Answer.the-variants.{NotShaped, NoProcess, NotAlone, OutOfRange}
+use Rattle.rules.specs.declared.Answer.the-variants.{NotShaped, NoProcess, NoLevelBelow, OutOfRange}
 use Rattle.rules.specs.declared.Called.{Called}
 use Rattle.rules.specs.State.{nobody, stageOf, rowOf, withProcess, withStage}
 use Rattle.rules.specs.Shape.{Going, ShapedStage, Shaped, shaped}
@@ -88,9 +88,9 @@ unfolding settle
 settle-fall m p x f ne lo =
     let more : x ≢ 1 = omega arith in
     cond-false (eqb (size f) x) (done (withStage m p (Finished x f))) _ (ne-eqb (size f) x ne)
-    ∙ cond-false (eqb x 1) (refused NotAlone m) (done (withStage m p (Running (x - 1) 0 0))) (ne-eqb x 1 more)
+    ∙ cond-false (eqb x 1) (refused NoLevelBelow m) (done (withStage m p (Running (x - 1) 0 0))) (ne-eqb x 1 more)
 
-pub settle-stick : (m : Machine) (p f : ℕ) → size f ≢ 1 → settle m p 1 f ≡ refused NotAlone m
+pub settle-stick : (m : Machine) (p f : ℕ) → size f ≢ 1 → settle m p 1 f ≡ refused NoLevelBelow m
 unfolding settle
 settle-stick m p f ne = cond-false (eqb (size f) 1) (done (withStage m p (Finished 1 f))) _ (ne-eqb (size f) 1 ne)
 
@@ -147,7 +147,7 @@ pub record DidStick (m : Machine) (p : ℕ) (c : Called) : Type 0 where
   pub found : ℕ
   pub was : stageOf m p ≡ Running 1 (m .n) found
   pub others : size (atLast m 1 found) ≢ 1
-  pub left : c ≡ refused NotAlone m
+  pub left : c ≡ refused NoLevelBelow m
 
 pub record WhatCallsDid : Type 0 where
   pub enter : (m : Machine) (p v : ℕ) → accepted (enterOf m p v) ≡ true → Valid m p × DidEnter m p v (enterOf m p v)

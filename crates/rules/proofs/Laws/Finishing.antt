@@ -12,7 +12,7 @@ use Rattle.sets.specs.Lines.{when, firstThat}
 use Rattle.rules.specs.declared.Stage.{Stage}
 use Rattle.rules.specs.declared.Stage.the-variants.{Absent, Running, Finished, Crashed}
 use Rattle.rules.specs.declared.Machine.{Machine}
-use Rattle.rules.specs.declared.Answer.the-variants.{NotShaped, NoProcess, NotAlone}
+use Rattle.rules.specs.declared.Answer.the-variants.{NotShaped, NoProcess, NoLevelBelow}
 use Rattle.rules.specs.declared.Called.{Called}
 use Rattle.rules.specs.State.{stageOf, rowOf, entered, finished, crashed, accessesOf}
 use Rattle.rules.specs.Shape.{Held, shaped}
@@ -80,7 +80,7 @@ first-refused (suc k) m p a = go (accepted (stepOf m p)) refl (first-refused k (
 
 -- How the recursion ends: it is so many steps, after which p has finished, or the last of which is refused with 7.
 abbrev How : ℕ → Called → Type 0
-How p c = ((accepted c ≡ true) × (finished (stageOf (c .machine) p) ≡ true)) ⊎ (c .answer ≡ NotAlone)
+How p c = ((accepted c ≡ true) × (finished (stageOf (c .machine) p) ≡ true)) ⊎ (c .answer ≡ NoLevelBelow)
 
 record Ends (m : Machine) (p : ℕ) (c : Called) : Type 0 where
   steps : ℕ
@@ -150,7 +150,7 @@ runs-alone m p a = goes-on m p (a .valid) (finishAt (stageOf m p) m p) ∙ ap (�
 
 -- Its steps finish it, and the call is these; or one of them is refused with 7, and so is the call.
 how-alone : (m : Machine) → Held m → (p : ℕ) → firstThat (crashLines m p) ≡ 0
-    → ((s : Finishes m p) × (finishOf m p ≡ stepsOf (s .steps) m p)) ⊎ (Sticks m p × (finishOf m p .answer ≡ NotAlone))
+    → ((s : Finishes m p) × (finishOf m p ≡ stepsOf (s .steps) m p)) ⊎ (Sticks m p × (finishOf m p .answer ≡ NoLevelBelow))
 how-alone m h p z = go (e .how)
   where
     a : Alone m p
@@ -169,7 +169,7 @@ how-alone m h p z = go (e .how)
           stage = a .stage;
         })
 
-    go : How p c → ((s : Finishes m p) × (finishOf m p ≡ stepsOf (s .steps) m p)) ⊎ (Sticks m p × (finishOf m p .answer ≡ NotAlone))
+    go : How p c → ((s : Finishes m p) × (finishOf m p ≡ stepsOf (s .steps) m p)) ⊎ (Sticks m p × (finishOf m p .answer ≡ NoLevelBelow))
     go (inl t) =
         inl (
           record {
@@ -195,7 +195,7 @@ how-alone m h p z = go (e .how)
 pub finishes-unless-sticks : (m : Machine) → Held m → (p : ℕ) → none (crashLines m p) ≡ true → (Sticks m p → ⊥) → Finishes m p
 finishes-unless-sticks m h p z never = go (how-alone m h p (none-first (crashLines m p) z))
   where
-    go : ((s : Finishes m p) × (finishOf m p ≡ stepsOf (s .steps) m p)) ⊎ (Sticks m p × (finishOf m p .answer ≡ NotAlone)) → Finishes m p
+    go : ((s : Finishes m p) × (finishOf m p ≡ stepsOf (s .steps) m p)) ⊎ (Sticks m p × (finishOf m p .answer ≡ NoLevelBelow)) → Finishes m p
     go (inl t) = t .0
     go (inr t) = absurd (never (t .0))
 
@@ -276,7 +276,7 @@ exactly-alone m h p =
     number : lines ≡ 0 → (Finishes m p × (answered ≡ 0)) ⊎ (Sticks m p × (answered ≡ 7))
     number z = go (how-alone m h p z)
       where
-        go : ((s : Finishes m p) × (finishOf m p ≡ stepsOf (s .steps) m p)) ⊎ (Sticks m p × (finishOf m p .answer ≡ NotAlone))
+        go : ((s : Finishes m p) × (finishOf m p ≡ stepsOf (s .steps) m p)) ⊎ (Sticks m p × (finishOf m p .answer ≡ NoLevelBelow))
             → (Finishes m p × (answered ≡ 0)) ⊎ (Sticks m p × (answered ≡ 7))
         go (inl t) = inl (t .0, ap (λ c. numberOf (c .answer)) (t .1) ∙ eqb-true (numberOf (stepsOf (t .0 .steps) m p .answer)) 0 (t .0 .made))
         go (inr t) = inr (t .0, ap numberOf (t .1))
@@ -325,7 +325,7 @@ exactly-alone m h p =
 equals : (m : Machine) → Held m → (p : ℕ) → accepted (finishOf m p) ≡ true → (s : Finishes m p) → finishOf m p ≡ stepsOf (s .steps) m p
 equals m h p a s = go (how-alone m h p (none-first (crashLines m p) (exactly-alone m h p .nothing .0 (eqb-true (numberOf (finishOf m p .answer)) 0 a) .0)))
   where
-    go : ((s : Finishes m p) × (finishOf m p ≡ stepsOf (s .steps) m p)) ⊎ (Sticks m p × (finishOf m p .answer ≡ NotAlone))
+    go : ((s : Finishes m p) × (finishOf m p ≡ stepsOf (s .steps) m p)) ⊎ (Sticks m p × (finishOf m p .answer ≡ NoLevelBelow))
         → finishOf m p ≡ stepsOf (s .steps) m p
     go (inl t) =
         t .1 ∙ ap (λ k. stepsOf k m p) (one-stop m p (t .0 .steps) (s .steps) (finishes-stops m p (t .0)) (finishes-stops m p s))

@@ -14,11 +14,11 @@ use Rattle.rules.specs.declared.Stage.{Stage}
 use Rattle.rules.specs.declared.Stage.the-variants.{Running, Finished}
 use Rattle.rules.specs.declared.Process.{Process}
 use Rattle.rules.specs.declared.Machine.{Machine}
-use Rattle.rules.specs.declared.Answer.the-variants.{NotAlone}
+use Rattle.rules.specs.declared.Answer.the-variants.{NoLevelBelow}
 use Rattle.rules.specs.declared.Called.{Called}
 use Rattle.rules.specs.State.{processOf, stageOf, valueOf, rowOf, finished, madeOf, foundOf, withProcess, withRegister}
 use Rattle.rules.specs.Shape.{Held, Going}
-use Rattle.rules.specs.Calls.{numberOf, done, reading, stepOf, onward, stepsOf, finishFrom}
+use Rattle.rules.specs.Calls.{numberOf, done, reading, stepOf, ifAccepted, stepsOf, finishFrom}
 use Rattle.rules.specs.Coded.Alone.{gathered}
 use Rattle.rules.specs.Statements.{Meets, Valid}
 use Rattle.rules.proofs.Laws.Small.{or-true, or-left, or-right, both, and-first, and-second, not-both, cond-false, equal-or-not}
@@ -26,7 +26,7 @@ use Rattle.rules.proofs.Laws.Small.{at-most-or-above}
 use Rattle.rules.proofs.Laws.Stores.{process-same, row-same}
 use Rattle.rules.proofs.Laws.Shape.{record-shaped}
 use Rattle.rules.proofs.Laws.Did.{running, what-calls-do}
-use Rattle.rules.proofs.Laws.Steps.{onward-refused, steps-first, steps-one, next, next-done, next-on}
+use Rattle.rules.proofs.Laws.Steps.{then-refused, steps-first, steps-one, next, next-done, next-on}
 use Rattle.rules.proofs.Laws.Keeps.{every-state-meets, keep-steps, reading-has, reading-below, held-register}
 use Rattle.rules.proofs.Laws.Reads.{reading-keeps, reading-finds}
 
@@ -162,7 +162,7 @@ runs-on m p x k f y j g r m′ e s =
 pub record LevelEnds (base : Machine) (v p x w : ℕ) (c : Called) : Type 0 where
   pub finish : size w ≡ x → c ≡ done (withProcess base p (record { stage = Finished x w; value = v }))
   pub fall : size w ≢ x → 2 ≤ x → c ≡ done (withProcess base p (record { stage = Running (x - 1) 0 0; value = v }))
-  pub stick : size w ≢ x → x ≡ 1 → c .answer ≡ NotAlone
+  pub stick : size w ≢ x → x ≡ 1 → c .answer ≡ NoLevelBelow
 
 last-read : (m : Machine) (p x f : ℕ) → Runs m p x (m .n) f → LevelEnds m (valueOf m p) p x (reading (rowOf m x) (m .n) f) (stepsOf 1 m p)
 last-read m p x f r =
@@ -327,9 +327,9 @@ base-held m p x k h = go (eqb k 0)
     go false = h
 
 from-next : (x : ℕ) (m : Machine) (p y k f : ℕ) → stageOf m p ≡ Running y k f
-    → finishFrom (suc x) m p ≡ onward (stepsOf (m .n + 1 - k) m p) (next x p)
+    → finishFrom (suc x) m p ≡ ifAccepted (stepsOf (m .n + 1 - k) m p) (next x p)
 unfolding finishFrom
-from-next x m p y k f e = ap (λ s. onward (stepsOf (m .n + 1 - madeOf (m .n) s) m p) (next x p)) e
+from-next x m p y k f e = ap (λ s. ifAccepted (stepsOf (m .n + 1 - madeOf (m .n) s) m p) (next x p)) e
 
 -- The count is the level: the process has finished, and so has the recursion.
 abbrev pub ended : ℕ → Machine → ℕ → ℕ → ℕ → Process
@@ -346,16 +346,16 @@ module _ (x : ℕ) (m : Machine) (p k f : ℕ) (r : Runs m p (suc x) k f) (e : s
 
   pub finishes-here : finishFrom (suc x) m p ≡ done (withProcess (base m p (suc x) k) p (ended x m p k f))
   finishes-here =
-      from-next x m p (suc x) k f (r .stage) ∙ ap (λ c. onward c (next x p)) ended-steps
+      from-next x m p (suc x) k f (r .stage) ∙ ap (λ c. ifAccepted c (next x p)) ended-steps
       ∙ next-done x p (withProcess (base m p (suc x) k) p (ended x m p k f)) ended-there
 
 -- Another count at level 1: the last step is refused, and so is the recursion.
 module _ (m : Machine) (p k f : ℕ) (r : Runs m p 1 k f) (ne : size (gathered (rowOf m 1) p k f) ≢ 1) where
-  pub stuck-there : stepsOf (m .n + 1 - k) m p .answer ≡ NotAlone
+  pub stuck-there : stepsOf (m .n + 1 - k) m p .answer ≡ NoLevelBelow
   stuck-there = level-ends m p 1 k f r .stick ne refl
 
   pub sticks-here : finishFrom 1 m p ≡ stepsOf (m .n + 1 - k) m p
-  sticks-here = from-next 0 m p 1 k f (r .stage) ∙ onward-refused (stepsOf (m .n + 1 - k) m p) (next 0 p) (ap (λ a. eqb (numberOf a) 0) stuck-there)
+  sticks-here = from-next 0 m p 1 k f (r .stage) ∙ then-refused (stepsOf (m .n + 1 - k) m p) (next 0 p) (ap (λ a. eqb (numberOf a) 0) stuck-there)
 
 -- Another count above level 1: the process goes to the level below, and the recursion with it.
 abbrev pub fallen : ℕ → Machine → ℕ → Process
@@ -388,5 +388,5 @@ module _ (x : ℕ) (m : Machine) (p k f : ℕ) (r : Runs m p (suc (suc x)) k f) 
 
   pub goes-below : finishFrom (suc (suc x)) m p ≡ finishFrom (suc x) (left x m p k) p
   goes-below =
-      from-next (suc x) m p (suc (suc x)) k f (r .stage) ∙ ap (λ c. onward c (next (suc x) p)) fell
+      from-next (suc x) m p (suc (suc x)) k f (r .stage) ∙ ap (λ c. ifAccepted c (next (suc x) p)) fell
       ∙ next-on (suc x) p (left x m p k) (ap (λ Q. finished (Q .stage)) stored)

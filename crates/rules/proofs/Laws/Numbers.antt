@@ -12,7 +12,7 @@ use Rattle.rules.specs.declared.Stage.{Stage}
 use Rattle.rules.specs.declared.Stage.the-variants.{Absent, Running, Finished, Crashed}
 use Rattle.rules.specs.declared.Machine.{Machine}
 use Rattle.rules.specs.declared.Answer.{Answer}
-use Rattle.rules.specs.declared.Answer.the-variants.{NotShaped, NoProcess, NotAlone, OutOfRange}
+use Rattle.rules.specs.declared.Answer.the-variants.{NotShaped, NoProcess, NoLevelBelow, OutOfRange}
 use Rattle.rules.specs.State.{stageOf, rowOf, entered, finished, crashed}
 use Rattle.rules.specs.Shape.{Going, shaped}
 use Rattle.rules.specs.Calls.{numberOf, done, refused, fresh, newOf, enterAt, enterOf, crashAt, crashOf, reading, settle, access, stepAt}
@@ -209,7 +209,7 @@ number-access m p x k f g some = go (equal-or-not k 0) (equal-or-not k (m .n)) (
     go (inr nz) (inl q) (inr s) (inl o) =
         let many : size (reading (rowOf m x) k f) ≢ 1 = λ e. s (e ∙ sym o) in
         ap (λ c. numberOf (c .answer))
-        (last q ∙ subst (λ y. settle m p y (reading (rowOf m x) k f) ≡ refused NotAlone m) (sym o) (settle-stick m p (reading (rowOf m x) k f) many))
+        (last q ∙ subst (λ y. settle m p y (reading (rowOf m x) k f) ≡ refused NoLevelBelow m) (sym o) (settle-stick m p (reading (rowOf m x) k f) many))
         ∙ sym (seven w true (both (eqb x 1 && eqb k (m .n)) _ (both (eqb x 1) _ (eq-eqb x 1 o) (eq-eqb k (m .n) q))
         (ap not (ne-eqb (size (reading (rowOf m x) k f)) 1 many))))
 

@@ -8,7 +8,7 @@ use Rattle.sets.specs.Sets.{size}
 use Rattle.rules.specs.declared.Stage.{Stage}
 use Rattle.rules.specs.declared.Stage.the-variants.{Absent, Running, Finished, Crashed}
 use Rattle.rules.specs.declared.Machine.{Machine}
-use Rattle.rules.specs.declared.Answer.the-variants.{NotShaped, NoProcess, NotAlone, OutOfRange}
+use Rattle.rules.specs.declared.Answer.the-variants.{NotShaped, NoProcess, NoLevelBelow, OutOfRange}
 use Rattle.rules.specs.declared.Called.{Called}
 use Rattle.rules.specs.declared.Standing.{Standing}
 use Rattle.rules.specs.declared.Sight.{Sight}
@@ -47,7 +47,7 @@ unfolding settle
 hands-settle m p x f = go (eqb (size f) x) (eqb x 1)
   where
     go : (s o : Bool)
-        → HandsBack m (cond s (done (withStage m p (Finished x f))) (cond o (refused NotAlone m) (done (withStage m p (Running (x - 1) 0 0)))))
+        → HandsBack m (cond s (done (withStage m p (Finished x f))) (cond o (refused NoLevelBelow m) (done (withStage m p (Running (x - 1) 0 0)))))
     go true o a = absurd (true≢false a)
     go false true a = refl
     go false false a = absurd (true≢false a)

@@ -7,7 +7,7 @@ use Rattle.sets.specs.Sets.{has, plus, size, setOf}
 use Rattle.rules.specs.declared.Stage.{Stage}
 use Rattle.rules.specs.declared.Stage.the-variants.{Absent, Running, Finished, Crashed}
 use Rattle.rules.specs.declared.Machine.{Machine}
-use Rattle.rules.specs.declared.Answer.the-variants.{NeverEntered, HasCrashed, HasFinished, NotAlone}
+use Rattle.rules.specs.declared.Answer.the-variants.{NeverEntered, HasCrashed, HasFinished, NoLevelBelow}
 use Rattle.rules.specs.declared.Called.{Called}
 use Rattle.rules.specs.declared.Landing.{Landing}
 use Rattle.rules.specs.declared.Landing.the-variants.{Lands, Stuck}
@@ -39,7 +39,7 @@ topRow x k = cond (eqb k 0) x (x - 1)
 abbrev pub landed : Machine → ℕ → ℕ → Landing → Called
 landed m p top (Lands y w) =
     done (withProcess (filledDown (top + 1 - y) top m p (valueOf m p)) p (record { stage = Finished y w; value = valueOf m p }))
-landed m p top Stuck = refused NotAlone m
+landed m p top Stuck = refused NoLevelBelow m
 
 abbrev pub aloneAt : Stage → Machine → ℕ → Called
 aloneAt Absent m p = refused NeverEntered m
