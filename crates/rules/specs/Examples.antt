@@ -166,29 +166,59 @@ abbrev pub crowded : Machine
 crowded =
     withProcess (withProcess bothWritten 1 (record { stage = Running 1 2 1; value = 7 })) 2 (record { stage = Running 1 1 0; value = 9 })
 
+-- 7 is "a count other than 1": 0 too. n = 2, process 1 alone at level 1 has read register 1 and not found it. No run leaves this state either.
+abbrev pub lonely : Machine
+lonely = withProcess (withRegister (withRegister (fresh 2) 2 1 7) 1 1 7) 1 (record { stage = Running 1 2 0; value = 7 })
+
 abbrev pub p8 : List Example
 p8 =
     example (state crowded) (steps 1 ∷ []) (answers 7 ∷ stands 1 Standing.Running 1 5 ∷ [])
     ∷ example (state crowded) (alone 1 ∷ []) (answers 7 ∷ stands 1 Standing.Running 1 5 ∷ [])
+    ∷ example (state lonely) (steps 1 ∷ []) (answers 7 ∷ stands 1 Standing.Running 1 5 ∷ [])
+    ∷ example (state lonely) (alone 1 ∷ []) (answers 7 ∷ stands 1 Standing.Running 1 5 ∷ [])
     ∷ []
 
--- "Step of a process that never entered: 4; crashed: 5; finished: 6; number 0: 2." And the same of the other calls; 3 of a second enter.
+-- "Step of a process that never entered: 4; crashed: 5; finished: 6; number 0: 2." And the same of the other calls; 3 of a second enter, whatever
+-- became of the process. A refused call changes nothing: what it would change is looked at after it.
 abbrev pub refusals : List Example
 refusals =
     example (new 2) (steps 1 ∷ []) (answers 4 ∷ stands 1 Standing.Absent 0 0 ∷ [])
     ∷ example (new 2) (enters 1 7 ∷ crashes 1 ∷ steps 1 ∷ []) (answers 5 ∷ stands 1 Standing.Crashed 2 0 ∷ [])
-    ∷ example (new 1) (enters 1 7 ∷ steps 1 ∷ steps 1 ∷ steps 1 ∷ []) (answers 6 ∷ stands 1 Standing.Finished 1 2 ∷ [])
+    ∷ example (new 1) (enters 1 7 ∷ steps 1 ∷ steps 1 ∷ steps 1 ∷ []) (answers 6 ∷ stands 1 Standing.Finished 1 2 ∷ sees 1 (1 ∶ 7 ∷ []) ∷ [])
     ∷ example (new 2) (steps 0 ∷ []) (answers 2 ∷ [])
     ∷ example (new 2) (steps 3 ∷ []) (answers 2 ∷ [])
-    ∷ example (new 2) (alone 2 ∷ []) (answers 4 ∷ [])
-    ∷ example (new 2) (enters 2 0 ∷ crashes 2 ∷ crashes 2 ∷ []) (answers 5 ∷ [])
-    ∷ example (new 1) (enters 1 7 ∷ alone 1 ∷ alone 1 ∷ []) (answers 6 ∷ [])
+    ∷ example (new 2) (crashes 1 ∷ []) (answers 4 ∷ stands 1 Standing.Absent 0 0 ∷ [])
+    ∷ example (new 2) (enters 2 0 ∷ crashes 2 ∷ crashes 2 ∷ []) (answers 5 ∷ stands 2 Standing.Crashed 2 0 ∷ [])
+    ∷ example (new 1) (enters 1 7 ∷ steps 1 ∷ steps 1 ∷ crashes 1 ∷ []) (answers 6 ∷ stands 1 Standing.Finished 1 2 ∷ sees 1 (1 ∶ 7 ∷ []) ∷ [])
+    ∷ example (new 2) (crashes 0 ∷ []) (answers 2 ∷ [])
+    ∷ example (new 2) (crashes 3 ∷ []) (answers 2 ∷ [])
+    ∷ example (new 2) (alone 2 ∷ []) (answers 4 ∷ stands 2 Standing.Absent 0 0 ∷ [])
+    ∷ example (new 2) (enters 1 7 ∷ crashes 1 ∷ alone 1 ∷ []) (answers 5 ∷ stands 1 Standing.Crashed 2 0 ∷ [])
+    ∷ example (new 1) (enters 1 7 ∷ alone 1 ∷ alone 1 ∷ []) (answers 6 ∷ stands 1 Standing.Finished 1 2 ∷ sees 1 (1 ∶ 7 ∷ []) ∷ [])
+    ∷ example (new 2) (alone 0 ∷ []) (answers 2 ∷ [])
+    ∷ example (new 2) (alone 3 ∷ []) (answers 2 ∷ [])
     ∷ example (new 2) (enters 2 5 ∷ enters 2 6 ∷ []) (answers 3 ∷ stands 2 Standing.Running 2 0 ∷ [])
+    ∷ example (new 1) (enters 1 5 ∷ steps 1 ∷ steps 1 ∷ enters 1 6 ∷ []) (answers 3 ∷ stands 1 Standing.Finished 1 2 ∷ sees 1 (1 ∶ 5 ∷ []) ∷ [])
+    ∷ example (new 2) (enters 1 5 ∷ steps 1 ∷ crashes 1 ∷ enters 1 6 ∷ []) (answers 3 ∷ stands 1 Standing.Crashed 2 1 ∷ [])
+    ∷ example (new 2) (enters 0 5 ∷ []) (answers 2 ∷ [])
     ∷ example (new 2) (enters 3 5 ∷ []) (answers 2 ∷ [])
     ∷ []
 
+-- On from a refusal and from the middle of a level; no view but of a finished process.
+abbrev pub others : List Example
+others =
+    -- the first value is the one that is written
+    example (new 1) (enters 1 5 ∷ enters 1 6 ∷ steps 1 ∷ steps 1 ∷ []) (answers 0 ∷ sees 1 (1 ∶ 5 ∷ []) ∷ [])
+    -- P5, its last read made by finishing alone
+    ∷ example (new 2) (enters 1 7 ∷ enters 2 9 ∷ steps 1 ∷ steps 1 ∷ steps 2 ∷ alone 1 ∷ [])
+    (answers 0 ∷ stands 1 Standing.Finished 2 3 ∷ sees 1 (1 ∶ 7 ∷ 2 ∶ 9 ∷ []) ∷ stands 2 Standing.Running 2 1 ∷ [])
+    -- a running and a crashed process have found a register, and have no view
+    ∷ example (new 2) (enters 1 7 ∷ steps 1 ∷ steps 1 ∷ []) (answers 0 ∷ stands 1 Standing.Running 2 2 ∷ sees 1 [] ∷ stands 2 Standing.Absent 0 0 ∷ [])
+    ∷ example (new 2) (enters 1 7 ∷ steps 1 ∷ steps 1 ∷ crashes 1 ∷ []) (answers 0 ∷ stands 1 Standing.Crashed 2 2 ∷ sees 1 [] ∷ [])
+    ∷ []
+
 abbrev pub table : List Example
-table = p1 ++ p2 ++ p3 ++ p4 ++ p5 ++ p6 ++ p7 ++ p8 ++ refusals
+table = p1 ++ p2 ++ p3 ++ p4 ++ p5 ++ p6 ++ p7 ++ p8 ++ refusals ++ others
 
 abbrev pub EveryExamplePasses : Type 0
 EveryExamplePasses = allPass table ≡ true

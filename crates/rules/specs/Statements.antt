@@ -149,6 +149,10 @@ pub record ExactlyWhenAlone (m : Machine) (p : ℕ) : Type 0 where
   pub seven : (numberOf (finishOf m p .answer) ≡ 7) ↔ ((none (crashLines m p) ≡ true) × Sticks m p)
   pub nothing : (numberOf (finishOf m p .answer) ≡ 0) ↔ ((none (crashLines m p) ≡ true) × Finishes m p)
 
+-- `Valid` is that neither 1 nor 2 applies.
+abbrev pub ValidIsTested : Type 0
+ValidIsTested = (m : Machine) (p : ℕ) → Valid m p ↔ (none (always m p) ≡ true)
+
 -- Document 01's table of the numbers 0 to 8, call by call.
 pub record TableOfNumbers : Type 0 where
   pub enter : (m : Machine) (p v : ℕ) → ExactlyWhen (enterOf m p v .answer) (enterLines m p)

@@ -1,7 +1,7 @@
 -- What each call does, from what stands to the result, and what an accepted call did.
 use mathlib.Core.Path.{_≡_, refl, sym, ap, subst, _∙_}
 use mathlib.Core.Logic.{_⊎_, inl, inr, _≢_}
-use mathlib.Core.Bool.{Bool, true, false, _&&_, cond, false≢true}
+use mathlib.Core.Bool.{Bool, true, false, not, _&&_, cond, false≢true}
 use Prim.Native.Nat.{ℕ, _+_, _-_, _≤_, _<_}
 use native.Mathlib.Omega.{arith}
 use lib.Dec.{leb, ltb, eqb}
@@ -16,7 +16,7 @@ use Rattle.rules.specs.State.{nobody, stageOf, rowOf, withProcess, withS
 use Rattle.rules.specs.Shape.{Going, ShapedStage, Shaped, shaped}
 use Rattle.rules.specs.Calls.{accepted, done, refused, fresh, newOf, tested, enterAt, enterOf, crashAt, crashOf, reading, write, settle, access}
 use Rattle.rules.specs.Calls.{stepAt, stepOf}
-use Rattle.rules.specs.Statements.{Valid, atLast, NewMachine, WhatCallsDo}
+use Rattle.rules.specs.Statements.{Valid, atLast, NewMachine, WhatCallsDo, ValidIsTested}
 use Rattle.rules.proofs.Laws.Small.{both, and-first, and-second, cond-true, cond-false, equal-or-not, blank}
 use Rattle.rules.proofs.Laws.Shape.{shaped-record}
 
@@ -35,6 +35,31 @@ went-on m p c e = go (shaped m) (leb 1 p && leb p (m .n)) refl refl e
     go true true s r a = record { shape = s; low = leb-true 1 p (and-first (leb 1 p) _ r); high = leb-true p (m .n) (and-second (leb 1 p) _ r) }
     go true false s r a = absurd (false≢true a)
     go false r s r′ a = absurd (false≢true a)
+
+pub valid-is-tested : ValidIsTested
+valid-is-tested m p = (to, back)
+  where
+    in-range : Bool
+    in-range = leb 1 p && leb p (m .n)
+
+    twice : (b : Bool) → not (not b) ≡ true → b ≡ true
+    twice true e = refl
+    twice false e = e
+
+    to : Valid m p → (not (not (shaped m)) && (not (not in-range) && true)) ≡ true
+    to h =
+        both (not (not (shaped m))) _ (ap (λ b. not (not b)) (h .shape))
+        (both (not (not in-range)) true
+        (ap (λ b. not (not b)) (both (leb 1 p) (leb p (m .n)) (le-leb 1 p (h .low)) (le-leb p (m .n) (h .high)))) refl)
+
+    back : (not (not (shaped m)) && (not (not in-range) && true)) ≡ true → Valid m p
+    back e =
+        let r : in-range ≡ true = twice in-range (and-first (not (not in-range)) true (and-second (not (not (shaped m))) _ e)) in
+        record {
+          shape = twice (shaped m) (and-first (not (not (shaped m))) _ e);
+          low = leb-true 1 p (and-first (leb 1 p) (leb p (m .n)) r);
+          high = leb-true p (m .n) (and-second (leb 1 p) (leb p (m .n)) r);
+        }
 
 -- what a running process of a well shaped machine has
 pub running : (m : Machine) (p : ℕ) → Valid m p → (x k f : ℕ) → stageOf m p ≡ Running x k f → Going (m .n) (rowOf m) x k f

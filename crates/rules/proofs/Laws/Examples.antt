@@ -12,8 +12,8 @@ use Rattle.rules.specs.State.{wrote, withRegister}
 use Rattle.rules.specs.Shape.{Held, shaped, shapedProcess, shapedRegister}
 use Rattle.rules.specs.Calls.{done, refused, fresh, newOf, reading, settle, access, rowValues}
 use Rattle.rules.specs.Statements.{Meets}
-use Rattle.rules.specs.Examples.{Example, Start, new, state, started, callsFrom, pairsOf, samePairs, holds, hold, passesBy, allPass, crowded}
-use Rattle.rules.specs.Examples.{p1, p2, p3, p4, p5, p6, p7, p8, refusals, table, EveryExamplePasses}
+use Rattle.rules.specs.Examples.{Example, Start, new, state, started, callsFrom, pairsOf, samePairs, holds, hold, passesBy, allPass, crowded, lonely}
+use Rattle.rules.specs.Examples.{p1, p2, p3, p4, p5, p6, p7, p8, refusals, others, table, EveryExamplePasses}
 use Rattle.rules.proofs.Laws.Small.{and-first, and-second}
 use Rattle.rules.proofs.Laws.Shape.{shaped-record}
 use Rattle.rules.proofs.Laws.Keeps.{meets-fresh, held-fresh, held-process, held-register}
@@ -36,6 +36,19 @@ crowded-meets =
   where
     registers : Held (withRegister (withRegister (withRegister (withRegister (fresh 2) 2 1 7) 2 2 9) 1 1 7) 1 2 9)
     registers = held-register _ (held-register _ (held-register _ (held-register _ (held-fresh 2) 2 1 7) 2 2 9) 1 1 7) 1 2 9
+
+-- So is the one with a count of 0.
+pub lonely-shaped : shaped lonely ≡ true
+unfolding shaped shapedProcess shapedRegister every within first has plus count size wrote
+lonely-shaped = refl
+
+lonely-meets : Meets 2 lonely
+lonely-meets =
+    record {
+      size = refl;
+      held = held-process _ (held-register _ (held-register _ (held-fresh 2) 2 1 7) 1 1 7) 1 (record { stage = Running 1 2 0; value = 7 }) (lit< tt);
+      shape = shaped-record lonely lonely-shaped;
+    }
 
 -- An example starts with a new machine, whatever its n, or with a state that is well shaped.
 abbrev Ready : Start → Type 0
@@ -94,8 +107,8 @@ news-ready (r ∷ rs) more e h =
 
 all-ready : AllReady table
 all-ready =
-    news-ready (p1 ++ p2 ++ p3 ++ p4 ++ p5 ++ p6 ++ p7) (p8 ++ refusals) refl
-    ((2, crowded-meets), ((2, crowded-meets), news-ready refusals [] refl tt))
+    news-ready (p1 ++ p2 ++ p3 ++ p4 ++ p5 ++ p6 ++ p7) (p8 ++ refusals ++ others) refl
+    ((2, crowded-meets), ((2, crowded-meets), ((2, lonely-meets), ((2, lonely-meets), news-ready (refusals ++ others) [] refl tt))))
 
 pub every-example-passes : EveryExamplePasses
 every-example-passes = all-bare table all-ready ∙ table-computes
