@@ -14,7 +14,7 @@ use Rattle.rules.specs.declared.Machine.{Machine}
 use Rattle.rules.specs.declared.Landing.{Landing}
 use Rattle.rules.specs.declared.Landing.the-variants.{Lands, Stuck}
 use Rattle.rules.specs.State.{withRegister}
-use Rattle.rules.specs.Alone.{gathered, landing, filledDown, topRow}
+use Rattle.rules.specs.Coded.Alone.{gathered, landing, filledDown, topRow}
 
 -- after k accesses: what was found, and the registers from k on
 pub gathered-later : (row p k f : ℕ) → f < 2 ^ 32 → (k ≡ 0 → ⊥) → bitOr f (upwards row k) ≡ gathered row p k f

@@ -10,7 +10,7 @@ ghost use mathlib.Core.Path.{_≡_};
 ghost use Prim.Native.Nat.{_+_, _-_, _≤_};
 ghost use Rattle.rules.specs.State.{rowIn};
 ghost use Rattle.rules.specs.Calls.{finishOf};
-ghost use Rattle.rules.specs.Alone.{gathered, landing, topRow, filledDown};
+ghost use Rattle.rules.specs.Coded.Alone.{gathered, landing, topRow, filledDown};
 
 // What process p finds in a row by its last read there, nobody else moving.
 fn gather(row: u32, p: u32, made: u32, found: u32) -> u32
@@ -88,7 +88,7 @@ pub fn finish(mut m: Machine, p: u32) -> Called
                     };
                 }
                 Landing::Stuck => {
-                    answer = Answer::NotAlone;
+                    answer = Answer::NoLevelBelow;
                 }
             }
         }

@@ -1,40 +1,38 @@
 -- Nobody waits: a process that has entered and not crashed finishes by its own steps.
 use mathlib.Core.Path.{_≡_, refl, sym, ap, subst, _∙_}
-use mathlib.Core.Logic.{_⊎_, inl, inr, _≢_}
+use mathlib.Core.Logic.{_≢_}
 use mathlib.Core.Bool.{Bool, true, false, _&&_, false≢true}
 use mathlib.Core.List.{List, _++_, append-assoc}
 use Prim.Native.Nat.{ℕ, zero, suc, _+_, _-_, _*_, _≤_}
 use native.Mathlib.Omega.{arith}
 use lib.ListN.{replicate, replicate-append-replicate}
-use borrow.Author.Tests.{eq-eqb, eqb-true}
+use borrow.Author.Tests.{eq-eqb}
 use Rattle.sets.specs.Sets.{tick}
 use Rattle.rules.specs.declared.Stage.{Stage}
 use Rattle.rules.specs.declared.Stage.the-variants.{Absent, Running, Finished, Crashed}
 use Rattle.rules.specs.declared.Machine.{Machine}
 use Rattle.rules.specs.State.{stageOf, entered, finished, crashed, accessesOf}
-use Rattle.rules.specs.Calls.{numberOf, accepted, fresh, stepOf, stepsOf, finishOf}
-use Rattle.sets.specs.Lines.{firstThat}
+use Rattle.rules.specs.Calls.{numberOf, accepted, fresh, stepOf, crashOf, stepsOf, finishOf}
 use Rattle.rules.specs.Numbers.{crashLines}
-use Rattle.rules.specs.Statements.{Meets, Valid, FinishedAlone, RefusedAlone}
-use Rattle.rules.proofs.Laws.Small.{equal-or-not}
+use Rattle.rules.specs.Statements.{Meets, Valid, none, Finishes, Sticks}
 use Rattle.rules.proofs.Laws.Shape.{record-shaped}
 use Rattle.rules.proofs.Laws.Did.{what-calls-do}
-use Rattle.rules.proofs.Laws.Numbers.{table-of-numbers}
+use Rattle.rules.proofs.Laws.Table.{table-of-numbers}
 use Rattle.rules.proofs.Laws.Steps.{steps-on, steps-off}
 use Rattle.rules.proofs.Laws.Accesses.{accesses-of-calls}
-use Rattle.rules.proofs.Laws.Finishing.{finishing-alone}
-use Rattle.history.specs.Runs.{Call, steps, crashes, answer, from, runs, tally, stepOfTaken, acceptedSteps}
+use Rattle.rules.proofs.Laws.Finishing.{finishes-unless-sticks, finishing-alone}
+use Rattle.history.specs.Runs.{Call, steps, crashes, answer, from, runs, tally, acceptedStepOf, acceptedSteps}
 use Rattle.history.specs.Theorems.{AloneNeverOneNorSeven, FinishesAlone, AloneFinishes, WaitFree}
 use Rattle.history.proofs.Appends.{from-append, tally-append}
 use Rattle.history.proofs.Moves.{every-state-shaped}
 use Rattle.history.proofs.Stays.{finished-from}
 use Rattle.history.proofs.Counts.{accesses-counted}
 use Rattle.history.proofs.Invariant.{Inv, inv-from, inv-runs}
-use Rattle.history.proofs.Answers.{Fine, answer-fine}
+use Rattle.history.proofs.Answers.{answer-fine}
 
 -- Steps one after another are calls of a list.
 pub steps-calls : (k : ℕ) (m : Machine) (p : ℕ) → accepted (stepsOf k m p) ≡ true
-    → (stepsOf k m p .machine ≡ from m (replicate k (steps p))) × (tally (stepOfTaken p) m (replicate k (steps p)) ≡ k)
+    → (stepsOf k m p .machine ≡ from m (replicate k (steps p))) × (tally (acceptedStepOf p) m (replicate k (steps p)) ≡ k)
 unfolding stepsOf from tally
 steps-calls zero m p a = (refl, refl)
 steps-calls (suc k) m p a = go (accepted (stepOf m p)) refl (steps-calls k (stepOf m p .machine) p)
@@ -45,9 +43,9 @@ steps-calls (suc k) m p a = go (accepted (stepOf m p)) refl (steps-calls k (step
     go : (b : Bool) → accepted (stepOf m p) ≡ b
         → (accepted (stepsOf k (stepOf m p .machine) p) ≡ true
         → (stepsOf k (stepOf m p .machine) p .machine ≡ from (stepOf m p .machine) (replicate k (steps p)))
-        × (tally (stepOfTaken p) (stepOf m p .machine) (replicate k (steps p)) ≡ k))
+        × (tally (acceptedStepOf p) (stepOf m p .machine) (replicate k (steps p)) ≡ k))
         → (stepsOf (suc k) m p .machine ≡ from (stepOf m p .machine) (replicate k (steps p)))
-        × (tick (stepOfTaken p (steps p) (stepOf m p)) + tally (stepOfTaken p) (stepOf m p .machine) (replicate k (steps p)) ≡ suc k)
+        × (tick (acceptedStepOf p (steps p) (stepOf m p)) + tally (acceptedStepOf p) (stepOf m p .machine) (replicate k (steps p)) ≡ suc k)
     go true t further =
         let r = further (sym (ap accepted (steps-on k m p t)) ∙ a) in (
           ap (λ c. c .machine) (steps-on k m p t) ∙ r .0,
@@ -55,33 +53,28 @@ steps-calls (suc k) m p a = go (accepted (stepOf m p)) refl (steps-calls k (step
         )
     go false t further = absurd (false≢true (sym t ∙ sym (ap accepted (steps-off k m p t)) ∙ a))
 
--- Finishing alone from any state that a run leaves.
-alone-taken : (m : Machine) → Inv m → (p : ℕ) → firstThat (crashLines m p) ≡ 0 → accepted (finishOf m p) ≡ true
-alone-taken m I p no-line = go (accepted (finishOf m p)) refl
-  where
-    -- a refused one would end in a step that is refused with 7
-    never : RefusedAlone m p → ⊥
-    never r =
-        let s = steps-calls (r .steps) m p (r .made) in
-        answer-fine (from m (replicate (r .steps) (steps p))) (inv-from m I (replicate (r .steps) (steps p))) (steps p) .1
-        (ap (λ m′. numberOf (stepOf m′ p .answer)) (sym (s .0)) ∙ ap numberOf (r .next ∙ r .number))
-
-    go : (b : Bool) → accepted (finishOf m p) ≡ b → b ≡ true
-    go true a = refl
-    go false a = absurd (never (finishing-alone .refuses m (I .meets .held) p no-line a))
+-- Finishing alone from any state that a run leaves: no step of it is refused with 7.
+never-sticks : (m : Machine) → Inv m → (p : ℕ) → Sticks m p → ⊥
+never-sticks m I p r =
+    let s = steps-calls (r .steps) m p (r .made) in
+    answer-fine (from m (replicate (r .steps) (steps p))) (inv-from m I (replicate (r .steps) (steps p))) (steps p) .1
+    (ap (λ m′. numberOf (stepOf m′ p .answer)) (sym (s .0)) ∙ r .next)
 
 -- Its number is that of a crash, or 0.
 pub alone-never-one-nor-seven : AloneNeverOneNorSeven
-alone-never-one-nor-seven n lo hi cs p = go (equal-or-not (firstThat (crashLines m p)) 0)
+alone-never-one-nor-seven n lo hi cs p = (
+  λ e. answer-fine m I (crashes p) .0 (crash-same 1 (omega arith) (omega arith) e),
+  λ e. never-sticks m I p (table-of-numbers .finish m (I .meets .held) p .seven .0 e .1),
+)
   where
     m : Machine
     m = runs n cs
 
-    go : (firstThat (crashLines m p) ≡ 0) ⊎ (firstThat (crashLines m p) ≢ 0) → Fine (finishOf m p)
-    go (inl none) = omega (arith, eqb-true (numberOf (finishOf m p .answer)) 0 (alone-taken m (inv-runs n lo hi cs) p none))
-    go (inr some) =
-        subst (λ k. (k ≢ 1) × (k ≢ 7)) (table-of-numbers .crash m p ∙ sym (table-of-numbers .finish m p some))
-        (answer-fine m (inv-runs n lo hi cs) (crashes p))
+    I : Inv m
+    I = inv-runs n lo hi cs
+
+    crash-same : (k : ℕ) → k ≢ 0 → k ≢ 7 → numberOf (finishOf m p .answer) ≡ k → numberOf (crashOf m p .answer) ≡ k
+    crash-same k nz n7 e = table-of-numbers .crash m p .some k nz .1 (table-of-numbers .finish m (I .meets .held) p .some k nz n7 .0 e)
 
 pub alone-finishes : AloneFinishes
 alone-finishes n lo hi cs p lp hp came alive going = go (stageOf (runs n cs) p) refl came alive going
@@ -101,36 +94,43 @@ alone-finishes n lo hi cs p lp hp came alive going = go (stageOf (runs n cs) p) 
     go (Crashed x k f) e a b c = absurd (false≢true (sym b))
     go (Running x k f) e a b c =
         record {
-          taken = yes-taken;
+          accepts = accepts;
           more = more;
           calls = left;
-          ended = subst (λ m. finished (stageOf m p) ≡ true) left (done .ended);
+          ended = subst (λ m. finished (stageOf m p) ≡ true) (as-calls .0 ∙ sym (from-append (fresh n) cs ds)) (done .ended);
           all = all;
           most = most;
         }
       where
-        yes-taken : accepted (finishOf (runs n cs) p) ≡ true
-        yes-taken =
-            alone-taken (runs n cs) I p
-            (sym (table-of-numbers .crash (runs n cs) p) ∙ ap (λ c. numberOf (c .answer)) (what-calls-do .crashes (runs n cs) p ok x k f e))
+        no-line : none (crashLines (runs n cs) p) ≡ true
+        no-line =
+            table-of-numbers .crash (runs n cs) p .nothing .0
+            (ap (λ c. numberOf (c .answer)) (what-calls-do .crashes (runs n cs) p ok x k f e))
 
-        done : FinishedAlone (runs n cs) p
-        done = finishing-alone .accepts (runs n cs) (I .meets .held) p yes-taken
+        done : Finishes (runs n cs) p
+        done = finishes-unless-sticks (runs n cs) (I .meets .held) p no-line (never-sticks (runs n cs) I p)
+
+        accepts : accepted (finishOf (runs n cs) p) ≡ true
+        accepts =
+            eq-eqb (numberOf (finishOf (runs n cs) p .answer)) 0
+            (table-of-numbers .finish (runs n cs) (I .meets .held) p .nothing .1 (no-line, done))
 
         more : ℕ
-        more = accessesOf (runs n cs .n) (stageOf (finishOf (runs n cs) p .machine) p) - accessesOf (runs n cs .n) (stageOf (runs n cs) p)
+        more = done .steps
 
         ds : List Call
         ds = replicate more (steps p)
 
-        as-calls : (stepsOf more (runs n cs) p .machine ≡ from (runs n cs) ds) × (tally (stepOfTaken p) (runs n cs) ds ≡ more)
-        as-calls = steps-calls more (runs n cs) p (ap accepted (done .steps) ∙ yes-taken)
+        as-calls : (stepsOf more (runs n cs) p .machine ≡ from (runs n cs) ds) × (tally (acceptedStepOf p) (runs n cs) ds ≡ more)
+        as-calls = steps-calls more (runs n cs) p (done .made)
 
         left : finishOf (runs n cs) p .machine ≡ runs n (cs ++ ds)
-        left = sym (ap (λ c. c .machine) (done .steps)) ∙ as-calls .0 ∙ sym (from-append (fresh n) cs ds)
+        left =
+            ap (λ c. c .machine) (finishing-alone .equals (runs n cs) (I .meets .held) p accepts done) ∙ as-calls .0
+            ∙ sym (from-append (fresh n) cs ds)
 
         all : acceptedSteps n (cs ++ ds) p ≡ acceptedSteps n cs p + more
-        all = tally-append (stepOfTaken p) (fresh n) cs ds ∙ ap (λ k. acceptedSteps n cs p + k) (as-calls .1)
+        all = tally-append (acceptedStepOf p) (fresh n) cs ds ∙ ap (λ k. acceptedSteps n cs p + k) (as-calls .1)
 
         most : acceptedSteps n (cs ++ ds) p ≤ n * (n + 1)
         most = subst (λ k. k ≤ n * (n + 1)) (accesses-counted n lo hi (cs ++ ds) p lp hp) bounded

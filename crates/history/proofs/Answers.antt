@@ -16,10 +16,11 @@ use Rattle.rules.specs.declared.Answer.the-variants.{NotShaped, NoProcess}
 use Rattle.rules.specs.State.{stageOf, valueOf, rowOf, entered}
 use Rattle.rules.specs.Shape.{Shaped, shaped}
 use Rattle.rules.specs.Calls.{numberOf, accepted, refused, tested, enterAt, enterOf, crashAt, crashOf, stepAt, stepOf}
-use Rattle.rules.specs.Statements.{Valid, DidStep, did-write, did-read, did-finish, did-fall, DidStick}
+use Rattle.rules.specs.Statements.{Valid}
 use Rattle.rules.proofs.Laws.Small.{and-first, and-second, equal-or-not, not-both}
 use Rattle.rules.proofs.Laws.Wrote.{lowestRow}
 use Rattle.rules.proofs.Laws.Shape.{record-shaped}
+use Rattle.rules.proofs.Laws.Did.{DidStep, did-write, did-read, did-finish, did-fall, DidStick}
 use Rattle.rules.proofs.Laws.Did.{goes-on, makes-step, running, some}
 use Rattle.history.specs.Runs.{Call, enters, steps, crashes, answer, runs}
 use Rattle.history.specs.Figure.{accesses, programAt, programOf}

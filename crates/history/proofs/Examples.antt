@@ -17,7 +17,7 @@ use Rattle.rules.proofs.Laws.Small.{cond-true}
 use Rattle.rules.proofs.Laws.Shape.{record-shaped}
 use Rattle.rules.proofs.Laws.Keeps.{meets-fresh}
 use Rattle.rules.proofs.Laws.Bare.{inRange, bareStep, step-bare}
-use Rattle.history.specs.Runs.{Call, enters, steps, crashes, answer, after, from, tally, stepOfTaken, stepTaken, taken, notTaken}
+use Rattle.history.specs.Runs.{Call, enters, steps, crashes, answer, after, from, tally, acceptedStepOf, acceptedStep, isAccepted, isRefused}
 use Rattle.history.specs.Runs.{reachedFrom, gives, givenFrom}
 use Rattle.history.specs.Figure.{pairs, readings, programOf}
 use Rattle.history.specs.Examples.{printed, PrintedCounts, PrintedLevels, PrintedViews}
@@ -118,12 +118,12 @@ pub printed-counts : PrintedCounts
 unfolding traceBy bareAnswer access settle reading has plus count size
 printed-counts =
     record {
-      accepted = counted taken 11 refl;
-      refused = counted notTaken 1 refl;
-      accesses = counted stepTaken 9 refl;
-      one = counted (stepOfTaken 1) 6 refl;
-      two = counted (stepOfTaken 2) 3 refl;
-      three = counted (stepOfTaken 3) 0 refl;
+      accepted = counted isAccepted 11 refl;
+      refused = counted isRefused 1 refl;
+      accesses = counted acceptedStep 9 refl;
+      one = counted (acceptedStepOf 1) 6 refl;
+      two = counted (acceptedStepOf 2) 3 refl;
+      three = counted (acceptedStepOf 3) 0 refl;
     }
 
 pub printed-levels : PrintedLevels

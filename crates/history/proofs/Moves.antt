@@ -15,14 +15,15 @@ use Rattle.rules.specs.declared.Machine.{Machine}
 use Rattle.rules.specs.State.{nobody, processOf, stageOf, valueOf, rowOf, withProcess, withRegister}
 use Rattle.rules.specs.Shape.{Held}
 use Rattle.rules.specs.Calls.{accepted, fresh, enterOf, stepOf, crashOf, reading}
-use Rattle.rules.specs.Statements.{Meets, Valid, DidStep, did-write, did-read, did-finish, did-fall, atLast}
+use Rattle.rules.specs.Statements.{Meets, Valid, atLast}
 use Rattle.rules.proofs.Laws.Small.{equal-or-not}
 use Rattle.rules.proofs.Laws.Stores.{process-same}
+use Rattle.rules.proofs.Laws.Did.{DidStep, did-write, did-read, did-finish, did-fall}
 use Rattle.rules.proofs.Laws.Did.{what-calls-did}
 use Rattle.rules.proofs.Laws.Refused.{refused-hands-back}
 use Rattle.rules.proofs.Laws.Keeps.{every-state-meets, held-register}
 use Rattle.rules.proofs.Laws.Effects.{in-range, effects-of-calls}
-use Rattle.history.specs.Runs.{Call, enters, steps, crashes, answer, after, from, stepOfTaken, gives}
+use Rattle.history.specs.Runs.{Call, enters, steps, crashes, answer, after, from, acceptedStepOf, gives}
 use Rattle.history.specs.Theorems.{EveryStateShaped}
 
 pub meets-after : (n : ℕ) (m : Machine) → Meets n m → (c : Call) → Meets n (after m c)
@@ -80,7 +81,7 @@ stepped m h p a = go (what-calls-did .step m p a .1)
 -- What a call does to process p: it stays as it was, and the call is neither an accepted step nor an accepted enter of p; or the call is an
 -- accepted enter, step or crash of p.
 pub by-call : (m : Machine) → Held m → (p : ℕ) → 1 ≤ p → (Q : Call → Type 0)
-    → ((c : Call) → processOf (after m c) p ≡ processOf m p → stepOfTaken p c (answer m c) ≡ false → ((o : ℕ) → gives m c p o ≡ o) → Q c)
+    → ((c : Call) → processOf (after m c) p ≡ processOf m p → acceptedStepOf p c (answer m c) ≡ false → ((o : ℕ) → gives m c p o ≡ o) → Q c)
     → ((v : ℕ) → accepted (enterOf m p v) ≡ true → Q (enters p v)) → (accepted (stepOf m p) ≡ true → Q (steps p))
     → (accepted (crashOf m p) ≡ true → Q (crashes p)) → (c : Call) → Q c
 by-call m h p lp Q same enter step crash (enters q v) = go (accepted (enterOf m q v)) refl (equal-or-not q p)

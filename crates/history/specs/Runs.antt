@@ -47,30 +47,30 @@ isStepOf p (steps q) = eqb q p
 isStepOf p (crashes q) = false
 
 -- the tests: an accepted step of p, an accepted step, an accepted call, a refused one
-abbrev pub stepOfTaken : ℕ → Call → Called → Bool
-stepOfTaken p c a = isStepOf p c && accepted a
+abbrev pub acceptedStepOf : ℕ → Call → Called → Bool
+acceptedStepOf p c a = isStepOf p c && accepted a
 
-abbrev pub stepTaken : Call → Called → Bool
-stepTaken c a = isStep c && accepted a
+abbrev pub acceptedStep : Call → Called → Bool
+acceptedStep c a = isStep c && accepted a
 
-abbrev pub taken : Call → Called → Bool
-taken c a = accepted a
+abbrev pub isAccepted : Call → Called → Bool
+isAccepted c a = accepted a
 
-abbrev pub notTaken : Call → Called → Bool
-notTaken c a = not (accepted a)
+abbrev pub isRefused : Call → Called → Bool
+isRefused c a = not (accepted a)
 
 -- the same of a run of a fresh machine of n processes
 abbrev pub acceptedSteps : ℕ → List Call → ℕ → ℕ
-acceptedSteps n cs p = tally (stepOfTaken p) (fresh n) cs
+acceptedSteps n cs p = tally (acceptedStepOf p) (fresh n) cs
 
 abbrev pub allSteps : ℕ → List Call → ℕ
-allSteps n cs = tally stepTaken (fresh n) cs
+allSteps n cs = tally acceptedStep (fresh n) cs
 
 abbrev pub acceptedCalls : ℕ → List Call → ℕ
-acceptedCalls n cs = tally taken (fresh n) cs
+acceptedCalls n cs = tally isAccepted (fresh n) cs
 
 abbrev pub refusedCalls : ℕ → List Call → ℕ
-refusedCalls n cs = tally notTaken (fresh n) cs
+refusedCalls n cs = tally isRefused (fresh n) cs
 
 -- process p is at level x after some of the calls: none of them, the first, the first two, .. all
 unfoldable pub reachedFrom : Machine → List Call → ℕ → ℕ → Bool

@@ -160,7 +160,7 @@ WrittenStays = OfEveryRun λ n cs. (x i v : ℕ) → 1 ≤ x → x ≤ n → 1 �
 
 -- And if it has not finished, finishing alone is accepted; it is `more` accepted steps of p at the end of the list, at most n(n+1) in all.
 pub record FinishesAlone (n : ℕ) (cs : List Call) (p : ℕ) : Type 0 where
-  pub taken : accepted (finishOf (runs n cs) p) ≡ true
+  pub accepts : accepted (finishOf (runs n cs) p) ≡ true
   pub more : ℕ
   pub calls : finishOf (runs n cs) p .machine ≡ runs n (cs ++ replicate more (steps p))
   pub ended : finished (stageOf (runs n (cs ++ replicate more (steps p))) p) ≡ true

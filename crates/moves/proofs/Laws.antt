@@ -11,7 +11,7 @@ use Rattle.rules.specs.declared.Stage.the-variants.{Absent, Running, Finished, 
 use Rattle.rules.specs.declared.Process.{Process}
 use Rattle.rules.specs.declared.Machine.{Machine}
 use Rattle.rules.specs.declared.Answer.{Answer}
-use Rattle.rules.specs.declared.Answer.the-variants.{Done, NotShaped, NoProcess, NeverEntered, HasCrashed, HasFinished, NotAlone}
+use Rattle.rules.specs.declared.Answer.the-variants.{Done, NotShaped, NoProcess, NeverEntered, HasCrashed, HasFinished, NoLevelBelow}
 use Rattle.rules.specs.declared.Called.{Called}
 use Rattle.rules.specs.State.{nobody, processOf, stageOf, valueOf, rowOf, withStage}
 use Rattle.rules.specs.Shape.{ShapedStage, shaped}
@@ -23,8 +23,8 @@ use Rattle.rules.proofs.Laws.Did.{goes-on, steps}
 use Rattle.moves.specs.declared.Move.{Move}
 use Rattle.moves.specs.declared.Asked.{Asked}
 use Rattle.moves.specs.declared.Mover.{Mover}
-use Rattle.moves.specs.Asked.{askedOf, moverBy, moverIn, moverOf}
-use Rattle.moves.specs.Moves.{afterRead, moveIn, moveOf}
+use Rattle.moves.specs.Coded.Asked.{askedOf, moverBy, moverIn, moverOf}
+use Rattle.moves.specs.Coded.Moves.{afterRead, moveIn, moveOf, moved, StepIsMove}
 
 pub unshaped : (m : Machine) (p : ℕ) → shaped m ≡ false → askedOf m p ≡ Asked.Refused NotShaped
 unshaped m p e = cond-false (shaped m) _ (Asked.Refused NotShaped) e
@@ -150,41 +150,42 @@ running-low m p x k f v r =
 pub place : {m : Machine} {p : ℕ} → Valid m p → p - 1 < 32
 place {m} {p} h = omega (arith, h .low, h .high, shaped-record m (h .shape) .most)
 
--- what a step comes to, once the code knows its move
-abbrev pub moved : Machine → ℕ → Move → Called
-moved m p (Move.Write x f v) = done (write m p x f)
-moved m p (Move.Turn s v) = done (withStage m p s)
-moved m p (Move.Refused a) = refused a m
-
-access-moves : (m : Machine) (p x k f v : ℕ) → access m p x k f ≡ moved m p (moveIn m (Mover.Running x k f v))
+-- A step is its move made.
+access-moves : (m : Machine) (p x k f : ℕ) → access m p x k f ≡ moved m p (moveIn m (Mover.Running x k f (valueOf m p)))
 unfolding access settle
-access-moves m p x k f v = go (eqb k 0) (ltb k (m .n)) (eqb (size g) x) (eqb x 1)
+access-moves m p x k f = go (eqb k 0) (ltb k (m .n)) (eqb (size g) x) (eqb x 1)
   where
     g : ℕ
     g = reading (rowOf m x) k f
 
+    v : ℕ
+    v = valueOf m p
+
     go : (z a b d : Bool)
         → cond z (done (write m p x f))
         (cond a (done (withStage m p (Running x (k + 1) g)))
-        (cond b (done (withStage m p (Finished x g))) (cond d (refused NotAlone m) (done (withStage m p (Running (x - 1) 0 0))))))
+        (cond b (done (withStage m p (Finished x g))) (cond d (refused NoLevelBelow m) (done (withStage m p (Running (x - 1) 0 0))))))
         ≡ moved m p (cond z (Move.Write x f v)
         (cond a (Move.Turn (Running x (k + 1) g) v)
-        (cond b (Move.Turn (Finished x g) v) (cond d (Move.Refused NotAlone) (Move.Turn (Running (x - 1) 0 0) v)))))
+        (cond b (Move.Turn (Finished x g) v) (cond d (Move.Refused NoLevelBelow) (Move.Turn (Running (x - 1) 0 0) v)))))
     go true a b d = refl
     go false true b d = refl
     go false false true d = refl
     go false false false true = refl
     go false false false false = refl
 
-pub step-moves : (m : Machine) (p : ℕ) (q : Move) → moveOf m p ≡ q → stepOf m p ≡ moved m p q
+pub step-is-move : StepIsMove
 unfolding stepOf
-step-moves m p q e = go (moverOf m p) refl ∙ ap (moved m p) e
+step-is-move m p = go (moverOf m p) refl
   where
     go : (r : Mover) → moverOf m p ≡ r → stepOf m p ≡ moved m p (moveIn m r)
     go (Mover.Running x k f v) e =
         let r = runs m p x k f v e in
-        steps m p (r .valid) x k f (r .stage) ∙ access-moves m p x k f v
+        steps m p (r .valid) x k f (r .stage) ∙ access-moves m p x k f ∙ ap (λ (v : ℕ). moved m p (moveIn m (Mover.Running x k f v))) (r .value)
     go (Mover.Refused a) e = refused-mover m p a (λ s. stepAt s m p) (record { absent = refl; finished = λ x w. refl; crashed = λ x k f. refl }) e
+
+pub step-moves : (m : Machine) (p : ℕ) (q : Move) → moveOf m p ≡ q → stepOf m p ≡ moved m p q
+step-moves m p q e = step-is-move m p ∙ ap (moved m p) e
 
 -- A move, taken apart again: who makes it.
 abbrev isWrite : Move → Bool
@@ -217,7 +218,7 @@ reads-only : (n row x k f v : ℕ) → isWrite (afterRead n row x k f v) ≡ fal
 reads-only n row x k f v = go (ltb k n) (eqb (size (reading row k f)) x) (eqb x 1)
   where
     go : (a b d : Bool) → isWrite (cond a (Move.Turn (Running x (k + 1) (reading row k f)) v)
-        (cond b (Move.Turn (Finished x (reading row k f)) v) (cond d (Move.Refused NotAlone) (Move.Turn (Running (x - 1) 0 0) v)))) ≡ false
+        (cond b (Move.Turn (Finished x (reading row k f)) v) (cond d (Move.Refused NoLevelBelow) (Move.Turn (Running (x - 1) 0 0) v)))) ≡ false
     go true b d = refl
     go false true d = refl
     go false false true = refl
@@ -235,21 +236,9 @@ write-runs m p x f v = go (moverOf m p) refl
     go (Mover.Running y k g w) e q = by y k g w (eqb k 0) refl e q
     go (Mover.Refused a) e q = absurd (false≢true (ap isWrite q))
 
-pub turn-valid : (m : Machine) (p : ℕ) (s : Stage) (v : ℕ) → moveOf m p ≡ Move.Turn s v → Valid m p × (valueOf m p ≡ v)
+pub turn-valid : (m : Machine) (p : ℕ) (s : Stage) (v : ℕ) → moveOf m p ≡ Move.Turn s v → Valid m p
 turn-valid m p s v = go (moverOf m p) refl
   where
-    by : (y k g w : ℕ) (z a b d : Bool) → cond z (Move.Write y g w)
-        (cond a (Move.Turn (Running y (k + 1) (reading (rowOf m y) k g)) w)
-        (cond b (Move.Turn (Finished y (reading (rowOf m y) k g)) w) (cond d (Move.Refused NotAlone) (Move.Turn (Running (y - 1) 0 0) w)))) ≡ Move.Turn s v
-        → w ≡ v
-    by y k g w true a b d q = ap moveValue q
-    by y k g w false true b d q = ap moveValue q
-    by y k g w false false true d q = ap moveValue q
-    by y k g w false false false true q = absurd (true≢false (ap isRefused q))
-    by y k g w false false false false q = ap moveValue q
-
-    go : (r : Mover) → moverOf m p ≡ r → moveIn m r ≡ Move.Turn s v → Valid m p × (valueOf m p ≡ v)
-    go (Mover.Running y k g w) e q =
-        let r = runs m p y k g w e in
-        (r .valid, r .value ∙ by y k g w (eqb k 0) (ltb k (m .n)) (eqb (size (reading (rowOf m y) k g)) y) (eqb y 1) q)
+    go : (r : Mover) → moverOf m p ≡ r → moveIn m r ≡ Move.Turn s v → Valid m p
+    go (Mover.Running y k g w) e q = runs m p y k g w e .valid
     go (Mover.Refused a) e q = absurd (true≢false (ap isRefused q))

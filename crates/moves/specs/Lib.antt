@@ -1,3 +1,2 @@
 -- What the calls compute on their way.
-pub mod Asked
-pub mod Moves
+pub mod Coded

@@ -7,8 +7,8 @@ ghost use mathlib.Core.Bool.{_&&_};
 ghost use Prim.Native.Nat.{_≤_};
 ghost use lib.Dec.{leb};
 ghost use Rattle.rules.specs.Calls.{reading};
-ghost use Rattle.moves.specs.Asked.{askedOf, moverOf, moverAt};
-ghost use Rattle.moves.specs.Moves.{afterRead, moveOf};
+ghost use Rattle.moves.specs.Coded.Asked.{askedOf, moverOf, moverAt};
+ghost use Rattle.moves.specs.Coded.Moves.{afterRead, moveOf};
 
 fn in_range(p: u32, n: u32) -> bool
     ensures { λ r. ⌜ r ≡ (leb 1 p && leb p n) ⌝ }
@@ -123,7 +123,7 @@ fn after_read(n: u32, row: u32, level: u32, made: u32, found: u32, value: u32) -
         };
     }
     if level == 1 {
-        return Move::Refused(Answer::NotAlone);
+        return Move::Refused(Answer::NoLevelBelow);
     }
     Move::Turn {
         stage: Stage::Running {

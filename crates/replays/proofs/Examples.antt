@@ -10,7 +10,7 @@ use Rattle.rules.specs.declared.Called.{Called}
 use Rattle.rules.specs.Calls.{accepted, fresh}
 use Rattle.rules.proofs.Laws.Keeps.{meets-fresh}
 use Rattle.rules.proofs.Laws.Bare.{step-bare}
-use Rattle.history.specs.Runs.{steps, from, tally, allSteps, refusedCalls, stepTaken, notTaken}
+use Rattle.history.specs.Runs.{steps, from, tally, allSteps, refusedCalls, acceptedStep, isRefused}
 use Rattle.history.specs.Examples.{printed}
 use Rattle.history.proofs.Examples.{printed-counts}
 use Rattle.formats.specs.declared.FileAnswer.the-variants.{Whole}
@@ -79,11 +79,11 @@ small-examples =
     }
 
 -- process 3 of 2 is refused
-one-refused : tally notTaken (fresh 2) (steps 3 ∷ []) ≡ 1
+one-refused : tally isRefused (fresh 2) (steps 3 ∷ []) ≡ 1
 unfolding tally
 one-refused = ap (λ (c : Called). tick (not (accepted c)) + 0) (step-bare 2 (fresh 2) (meets-fresh 2 (lit≤ tt) (lit≤ tt)) 3)
 
-no-access : tally stepTaken (fresh 2) (steps 3 ∷ []) ≡ 0
+no-access : tally acceptedStep (fresh 2) (steps 3 ∷ []) ≡ 0
 unfolding tally
 no-access = ap (λ (c : Called). tick (accepted c) + 0) (step-bare 2 (fresh 2) (meets-fresh 2 (lit≤ tt) (lit≤ tt)) 3)
 

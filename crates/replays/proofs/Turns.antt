@@ -10,7 +10,7 @@ use borrow.Author.Tests.{leb-true, le-leb, lt-leb}
 use Rattle.sets.specs.Sets.{tick}
 use Rattle.rules.specs.declared.Machine.{Machine}
 use Rattle.rules.specs.Calls.{accepted, fresh}
-use Rattle.history.specs.Runs.{Call, enters, steps, crashes, answer, from, tally, isStep, stepTaken, notTaken}
+use Rattle.history.specs.Runs.{Call, enters, steps, crashes, answer, from, tally, isStep, acceptedStep, isRefused}
 use Rattle.formats.specs.declared.FileAnswer.{FileAnswer}
 use Rattle.formats.specs.declared.FileAnswer.the-variants.{Whole, BudgetSpent, BodyCut}
 use Rattle.formats.specs.declared.Mark.{Mark}
@@ -44,8 +44,8 @@ resumed-took r m c o =
     let a = answer m c in
     let one : r .taken + suc (length (o .calls)) ≡ r .taken + 1 + length (o .calls) = omega arith in
     alike (o .answer) (o .place) (from (a .machine) (o .calls)) one
-    (step-count (isStep c) (accepted a) (r .accesses) (tally stepTaken (a .machine) (o .calls)))
-    (refused-count (accepted a) (r .refused) (tally notTaken (a .machine) (o .calls)))
+    (step-count (isStep c) (accepted a) (r .accesses) (tally acceptedStep (a .machine) (o .calls)))
+    (refused-count (accepted a) (r .refused) (tally isRefused (a .machine) (o .calls)))
 
 pub resumed-ended : (r : Counts) (m : Machine) (a : FileAnswer) (at : ℕ) → ends a at r m ≡ resumed r m (ended a at)
 unfolding tally from

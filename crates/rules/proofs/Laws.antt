@@ -10,8 +10,11 @@ pub mod Steps
 pub mod Keeps
 pub mod Effects
 pub mod Accesses
+pub mod Reads
+pub mod Level
 pub mod Alone
 pub mod Finishing
+pub mod Table
 pub mod Looks
 pub mod Bare
 pub mod Examples

@@ -10,7 +10,7 @@ use Rattle.rules.specs.declared.Stage.the-variants.{Absent, Running, Fin
 use Rattle.rules.specs.declared.Standing.{Standing}
 use Rattle.rules.specs.declared.Machine.{Machine}
 use Rattle.rules.specs.declared.Answer.{Answer}
-use Rattle.rules.specs.declared.Answer.the-variants.{Done, NotShaped, NoProcess, EnteredBefore, NeverEntered, HasCrashed, HasFinished, NotAlone, OutOfRange}
+use Rattle.rules.specs.declared.Answer.the-variants.{Done, NotShaped, NoProcess, EnteredBefore, NeverEntered, HasCrashed, HasFinished, NoLevelBelow, OutOfRange}
 use Rattle.rules.specs.declared.Called.{Called}
 use Rattle.rules.specs.declared.Sight.{Sight}
 use Rattle.rules.specs.State.{nobody, stageOf, valueOf, rowOf, cellIn, finished, levelOf, madeOf, accessesOf, withProcess, withStage, withRegister}
@@ -24,7 +24,7 @@ numberOf EnteredBefore = 3
 numberOf NeverEntered = 4
 numberOf HasCrashed = 5
 numberOf HasFinished = 6
-numberOf NotAlone = 7
+numberOf NoLevelBelow = 7
 numberOf OutOfRange = 8
 
 abbrev pub accepted : Called → Bool
@@ -81,7 +81,7 @@ write m p x f = withStage (withRegister m x p (valueOf m p)) p (Running x 1 f)
 unfoldable pub settle : Machine → ℕ → ℕ → ℕ → Called
 settle m p x f =
     cond (eqb (size f) x) (done (withStage m p (Finished x f)))
-    (cond (eqb x 1) (refused NotAlone m) (done (withStage m p (Running (x - 1) 0 0))))
+    (cond (eqb x 1) (refused NoLevelBelow m) (done (withStage m p (Running (x - 1) 0 0))))
 
 -- access number k + 1 at level x: the write, or the read of register k
 unfoldable pub access : Machine → ℕ → ℕ → ℕ → ℕ → Called
@@ -99,19 +99,19 @@ unfoldable pub stepOf : Machine → ℕ → Called
 stepOf m p = tested m p (stepAt (stageOf m p) m p)
 
 -- after an accepted call, what follows it; a refused one ends there
-abbrev pub onward : Called → (Machine → Called) → Called
-onward c next = elim (accepted c) [ true ↦ next (c .machine) | false ↦ c ]
+abbrev pub ifAccepted : Called → (Machine → Called) → Called
+ifAccepted c next = elim (accepted c) [ true ↦ next (c .machine) | false ↦ c ]
 
 -- k steps of process p, one after another, up to the first that is refused
 unfoldable pub stepsOf : ℕ → Machine → ℕ → Called
 stepsOf zero m p = done m
-stepsOf (suc k) m p = onward (stepOf m p) (λ after. stepsOf k after p)
+stepsOf (suc k) m p = ifAccepted (stepOf m p) (λ after. stepsOf k after p)
 
 -- rule 8: the call at level x makes the accesses that are left there and, unless the process has finished, calls itself at x - 1
 unfoldable pub finishFrom : ℕ → Machine → ℕ → Called
-finishFrom zero m p = done m
+finishFrom zero m p = refused NoLevelBelow m
 finishFrom (suc x) m p =
-    onward (stepsOf (m .n + 1 - madeOf (m .n) (stageOf m p)) m p)
+    ifAccepted (stepsOf (m .n + 1 - madeOf (m .n) (stageOf m p)) m p)
     (λ after. elim (finished (stageOf after p)) [ true ↦ done after | false ↦ finishFrom x after p ])
 
 -- "If one of these steps would be refused, the call is refused with that number and the state is as at entry."

@@ -3,6 +3,6 @@ pub mod State
 pub mod Shape
 pub mod Calls
 pub mod Numbers
-pub mod Alone
+pub mod Coded
 pub mod Statements
 pub mod Examples

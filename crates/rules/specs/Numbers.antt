@@ -1,4 +1,4 @@
--- Document 01's table of the numbers 1 to 7, apart from the calls' definitions: for each call, when each number applies. "The lowest number
+-- Document 01's table of the numbers 1 to 8, apart from the calls' definitions: for each call, when each number applies. "The lowest number
 -- that applies is given for machine calls."
 use Prim.Native.Nat.{ℕ}
 use mathlib.Core.Bool.{Bool, false, not, _&&_}
@@ -31,3 +31,6 @@ crashLines m p = always m p ++ when 4 (not (entered (stageOf m p))) ∷ when 5 (
 
 abbrev pub stepLines : Machine → ℕ → List Line
 stepLines m p = crashLines m p ++ when 7 (lastOfMany m (stageOf m p)) ∷ []
+
+abbrev pub newLines : ℕ → List Line
+newLines n = when 8 (not (leb 1 n && leb n 32)) ∷ []

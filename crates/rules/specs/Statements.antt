@@ -1,26 +1,25 @@
 -- What is proved of the machine's definitions, with the sentence of document 01 above each statement. proofs/Laws proves them.
 use mathlib.Core.Path.{_≡_}
 use mathlib.Core.Logic.{_↔_, _⊎_, _≢_}
-use mathlib.Core.Bool.{Bool, true, false, not, _&&_}
+use mathlib.Core.Bool.{Bool, true, false, not, _&&_, _||_}
 use mathlib.Core.List.{List, [], _∷_, _++_, List·Memᴰ}
 use Prim.Native.Nat.{ℕ, _+_, _-_, _*_, _≤_, _<_}
-use lib.Dec.{leb, ltb, eqb}
-use lib.ListN.{replicate}
+use lib.Dec.{ltb, eqb}
+use lib.ListN.{length, getD, replicate}
 use Rattle.sets.specs.Sets.{has, size}
+use Rattle.rules.specs.declared.Stage.{Stage}
 use Rattle.rules.specs.declared.Stage.the-variants.{Absent, Running, Finished, Crashed}
 use Rattle.rules.specs.declared.Machine.{Machine}
 use Rattle.rules.specs.declared.Answer.{Answer}
-use Rattle.rules.specs.declared.Answer.the-variants.{NotAlone}
+use Rattle.rules.specs.declared.Answer.the-variants.{Done, NoLevelBelow}
 use Rattle.rules.specs.declared.Standing.{Standing}
 use Rattle.rules.specs.declared.Sight.{Sight}
-use Rattle.rules.specs.declared.Called.{Called}
-use Rattle.rules.specs.State.{processOf, stageOf, valueOf, rowOf, cellOf, finished, crashed, levelOf, madeOf, foundOf, accessesOf}
-use Rattle.rules.specs.State.{withProcess, withStage}
+use Rattle.rules.specs.State.{processOf, stageOf, valueOf, rowOf, cellOf, entered, finished, crashed, levelOf, madeOf, foundOf, accessesOf}
+use Rattle.rules.specs.State.{withProcess, withStage, withRegister}
 use Rattle.rules.specs.Shape.{Held, Shaped, shaped}
-use Rattle.rules.specs.Alone.{finishLines, aloneOf}
-use Rattle.sets.specs.Lines.{Line, when, firstThat}
-use Rattle.rules.specs.Numbers.{always, enterLines, crashLines, stepLines}
-use Rattle.rules.specs.Calls.{numberOf, accepted, done, refused, fresh, newOf, enterOf, crashOf, reading, write, stepOf, stepsOf}
+use Rattle.sets.specs.Lines.{Line}
+use Rattle.rules.specs.Numbers.{always, enterLines, crashLines, stepLines, newLines}
+use Rattle.rules.specs.Calls.{numberOf, accepted, done, refused, fresh, newOf, enterOf, crashOf, reading, stepOf, stepsOf}
 use Rattle.rules.specs.Calls.{finishOf, lookOf}
 
 -- Shape. The test that the code computes is the record of document 01's paragraph.
@@ -51,47 +50,24 @@ pub record Valid (m : Machine) (p : ℕ) : Type 0 where
 abbrev pub atLast : Machine → ℕ → ℕ → ℕ
 atLast m x f = reading (rowOf m x) (m .n) f
 
--- What an accepted call did. Rule 3: "Entering gives a process its value and puts it at level n with no access made. It touches no register."
-pub record DidEnter (m : Machine) (p v : ℕ) (c : Called) : Type 0 where
-  pub was : stageOf m p ≡ Absent
-  pub left : c ≡ done (withProcess m p (record { stage = Running (m .n) 0 0; value = v }))
+-- "A new machine": of n processes, none of which has entered.
+pub record NewMachine : Type 0 where
+  pub made : (n : ℕ) → 1 ≤ n → n ≤ 32 → newOf n ≡ done (fresh n)
+  pub absent : (n p : ℕ) → stageOf (fresh n) p ≡ Absent
 
--- Rule 6: "A crashed process never moves again. What it wrote stays."
-pub record DidCrash (m : Machine) (p : ℕ) (c : Called) : Type 0 where
-  pub level : ℕ
-  pub made : ℕ
-  pub found : ℕ
-  pub was : stageOf m p ≡ Running level made found
-  pub left : c ≡ done (withStage m p (Crashed level made found))
+-- Rule 4: "A read finds what stands there at that step." Register j is added to those found exactly if it stands filled in the row.
+abbrev pub ReadFinds : Type 0
+ReadFinds = (row j found i : ℕ) → has (reading row j found) i ≡ (has found i || (eqb i j && has row i))
 
--- Rules 4 and 5: the write; a read that is not the last; the last read, which finishes or goes to the next lower level.
-pub data DidStep (m : Machine) (p : ℕ) (c : Called) : Type 0 where
-  did-write : (x f : ℕ) → stageOf m p ≡ Running x 0 f → c ≡ done (write m p x f) → DidStep m p c
-  did-read : (x k f : ℕ) → stageOf m p ≡ Running x k f → 1 ≤ k → k < m .n
-      → c ≡ done (withStage m p (Running x (k + 1) (reading (rowOf m x) k f))) → DidStep m p c
-  did-finish : (x f : ℕ) → stageOf m p ≡ Running x (m .n) f → size (atLast m x f) ≡ x
-      → c ≡ done (withStage m p (Finished x (atLast m x f))) → DidStep m p c
-  did-fall : (x f : ℕ) → stageOf m p ≡ Running x (m .n) f → size (atLast m x f) ≢ x → 2 ≤ x
-      → c ≡ done (withStage m p (Running (x - 1) 0 0)) → DidStep m p c
-
--- "step at level 1 whose last read gives a count other than 1"
-pub record DidStick (m : Machine) (p : ℕ) (c : Called) : Type 0 where
-  pub found : ℕ
-  pub was : stageOf m p ≡ Running 1 (m .n) found
-  pub others : size (atLast m 1 found) ≢ 1
-  pub left : c ≡ refused NotAlone m
-
-pub record WhatCallsDid : Type 0 where
-  pub enter : (m : Machine) (p v : ℕ) → accepted (enterOf m p v) ≡ true → Valid m p × DidEnter m p v (enterOf m p v)
-  pub crash : (m : Machine) (p : ℕ) → accepted (crashOf m p) ≡ true → Valid m p × DidCrash m p (crashOf m p)
-  pub step : (m : Machine) (p : ℕ) → accepted (stepOf m p) ≡ true → Valid m p × DidStep m p (stepOf m p)
-
--- The same from what stands to what the call does.
+-- What a call does, from what stands. Rule 3: "Entering gives a process its value and puts it at level n with no access made." Rule 6: a crash leaves
+-- level, accesses and found registers. Rules 4 and 5: the write; a read that is not the last; the last read, which finishes, goes to the next lower
+-- level, or is refused with 7.
 pub record WhatCallsDo : Type 0 where
   pub enters : (m : Machine) (p : ℕ) → Valid m p → (v : ℕ) → stageOf m p ≡ Absent
       → enterOf m p v ≡ done (withProcess m p (record { stage = Running (m .n) 0 0; value = v }))
   pub crashes : (m : Machine) (p : ℕ) → Valid m p → (x k f : ℕ) → stageOf m p ≡ Running x k f → crashOf m p ≡ done (withStage m p (Crashed x k f))
-  pub writes : (m : Machine) (p : ℕ) → Valid m p → (x f : ℕ) → stageOf m p ≡ Running x 0 f → stepOf m p ≡ done (write m p x f)
+  pub writes : (m : Machine) (p : ℕ) → Valid m p → (x f : ℕ) → stageOf m p ≡ Running x 0 f
+      → stepOf m p ≡ done (withStage (withRegister m x p (valueOf m p)) p (Running x 1 f))
   pub reads : (m : Machine) (p : ℕ) → Valid m p → (x k f : ℕ) → stageOf m p ≡ Running x k f → 1 ≤ k → k < m .n
       → stepOf m p ≡ done (withStage m p (Running x (k + 1) (reading (rowOf m x) k f)))
   pub finishes : (m : Machine) (p : ℕ) → Valid m p → (x f : ℕ) → stageOf m p ≡ Running x (m .n) f → size (atLast m x f) ≡ x
@@ -99,11 +75,11 @@ pub record WhatCallsDo : Type 0 where
   pub falls : (m : Machine) (p : ℕ) → Valid m p → (x f : ℕ) → stageOf m p ≡ Running x (m .n) f → size (atLast m x f) ≢ x → 2 ≤ x
       → stepOf m p ≡ done (withStage m p (Running (x - 1) 0 0))
   pub sticks : (m : Machine) (p : ℕ) → Valid m p → (f : ℕ) → stageOf m p ≡ Running 1 (m .n) f → size (atLast m 1 f) ≢ 1
-      → stepOf m p ≡ refused NotAlone m
+      → stepOf m p ≡ refused NoLevelBelow m
 
--- nothing is seen
-abbrev pub absentSight : Answer → Sight
-absentSight a = record { answer = a; standing = Standing.Absent; level = 0; accesses = 0; view = 0; values = replicate 32 0 }
+-- a look that gives no view: all that stands beside it is 0
+abbrev pub noView : Answer → Standing → ℕ → ℕ → Sight
+noView a s x k = record { answer = a; standing = s; level = x; accesses = k; view = 0; values = replicate 32 0 }
 
 -- Demand 1: "A refused machine call hands back the state it was given." "A new machine is refused with 8 only, and then a fresh machine of one
 -- process is returned." "A refused look gives absent, 0, 0 and no view."
@@ -113,18 +89,36 @@ pub record RefusedHandsBack : Type 0 where
   pub crash : (m : Machine) (p : ℕ) → accepted (crashOf m p) ≡ false → crashOf m p .machine ≡ m
   pub finish : (m : Machine) (p : ℕ) → accepted (finishOf m p) ≡ false → finishOf m p .machine ≡ m
   pub new : (n : ℕ) → accepted (newOf n) ≡ false → newOf n .machine ≡ fresh 1
-  pub look : (m : Machine) (p : ℕ) → numberOf (lookOf m p .answer) ≢ 0 → lookOf m p ≡ absentSight (lookOf m p .answer)
+  pub look : (m : Machine) (p : ℕ) → numberOf (lookOf m p .answer) ≢ 0 → lookOf m p ≡ noView (lookOf m p .answer) Standing.Absent 0 0
 
--- "Given exactly when": the number k is given where a line of that number applies and no line before it does; 0 where no line applies.
+-- "A look at a process refuses 1, 2 and otherwise gives its stage, level, accesses and, if finished, its view": the accesses by rule 7, and beside the
+-- view the value of each of its processes, out of the row of its level, process i's at i - 1, and 0 at every other place.
+pub record ShowsView (m : Machine) (x w : ℕ) (l : Sight) : Type 0 where
+  pub answer : l .answer ≡ Done
+  pub standing : l .standing ≡ Standing.Finished
+  pub level : l .level ≡ x
+  pub accesses : l .accesses ≡ (m .n + 1) * (m .n - x) + (m .n + 1)
+  pub view : l .view ≡ w
+  pub places : length (l .values) ≡ 32
+  pub value : (i : ℕ) → has w i ≡ true → getD (l .values) (i - 1) 0 ≡ cellOf m x i
+  pub other : (i : ℕ) → 1 ≤ i → i ≤ 32 → has w i ≡ false → getD (l .values) (i - 1) 0 ≡ 0
+
+pub record WhatLooksShow : Type 0 where
+  -- "the level of an absent process is 0"
+  pub absent : (m : Machine) (p : ℕ) → Valid m p → stageOf m p ≡ Absent → lookOf m p ≡ noView Done Standing.Absent 0 0
+  pub running : (m : Machine) (p : ℕ) → Valid m p → (x k f : ℕ) → stageOf m p ≡ Running x k f
+      → lookOf m p ≡ noView Done Standing.Running x ((m .n + 1) * (m .n - x) + k)
+  pub crashed : (m : Machine) (p : ℕ) → Valid m p → (x k f : ℕ) → stageOf m p ≡ Crashed x k f
+      → lookOf m p ≡ noView Done Standing.Crashed x ((m .n + 1) * (m .n - x) + k)
+  pub finished : (m : Machine) (p : ℕ) → Valid m p → (x w : ℕ) → stageOf m p ≡ Finished x w → ShowsView m x w (lookOf m p)
+
+-- "Given exactly when", of a call's lines in their order: the number k where a line of that number applies and no line before it does, and 0 where
+-- no line applies.
 abbrev pub none : List Line → Bool
 none [] = true
 none (l ∷ ls) = not (l .applies) && none ls
 
-abbrev pub numbered : List Line → Bool
-numbered [] = true
-numbered (l ∷ ls) = not (eqb (l .number) 0) && numbered ls
-
-pub record Given (k : ℕ) (ls : List Line) : Type 0 where
+pub record FirstLine (k : ℕ) (ls : List Line) : Type 0 where
   pub before : List Line
   pub line : Line
   pub after : List Line
@@ -133,12 +127,46 @@ pub record Given (k : ℕ) (ls : List Line) : Type 0 where
   pub applies : line .applies ≡ true
   pub earlier : none before ≡ true
 
-pub record FirstIsGiven : Type 0 where
-  pub some : (k : ℕ) → k ≢ 0 → (ls : List Line) → (firstThat ls ≡ k) ↔ Given k ls
-  pub nothing : (ls : List Line) → numbered ls ≡ true → (firstThat ls ≡ 0) ↔ (none ls ≡ true)
+pub record ExactlyWhen (a : Answer) (ls : List Line) : Type 0 where
+  pub some : (k : ℕ) → k ≢ 0 → (numberOf a ≡ k) ↔ FirstLine k ls
+  pub nothing : (numberOf a ≡ 0) ↔ (none ls ≡ true)
+
+-- Finishing alone (rule 8) "makes its steps until it finishes": so many single steps of p are accepted, and then it has finished.
+pub record Finishes (m : Machine) (p : ℕ) : Type 0 where
+  pub steps : ℕ
+  pub made : accepted (stepsOf steps m p) ≡ true
+  pub ended : finished (stageOf (stepsOf steps m p .machine) p) ≡ true
+
+-- "If one of these steps would be refused": so many are accepted, and the next is refused with 7.
+pub record Sticks (m : Machine) (p : ℕ) : Type 0 where
+  pub steps : ℕ
+  pub made : accepted (stepsOf steps m p) ≡ true
+  pub next : numberOf (stepOf (stepsOf steps m p .machine) p .answer) ≡ 7
+
+-- 1, 2, 4, 5 and 6 as for a crash; where none of them applies, "the call is refused with that number", or done.
+pub record ExactlyWhenAlone (m : Machine) (p : ℕ) : Type 0 where
+  pub some : (k : ℕ) → k ≢ 0 → k ≢ 7 → (numberOf (finishOf m p .answer) ≡ k) ↔ FirstLine k (crashLines m p)
+  pub seven : (numberOf (finishOf m p .answer) ≡ 7) ↔ ((none (crashLines m p) ≡ true) × Sticks m p)
+  pub nothing : (numberOf (finishOf m p .answer) ≡ 0) ↔ ((none (crashLines m p) ≡ true) × Finishes m p)
+
+-- `Valid` is that neither 1 nor 2 applies.
+abbrev pub ValidIsTested : Type 0
+ValidIsTested = (m : Machine) (p : ℕ) → Valid m p ↔ (none (always m p) ≡ true)
+
+-- Document 01's table of the numbers 0 to 8, call by call.
+pub record TableOfNumbers : Type 0 where
+  pub enter : (m : Machine) (p v : ℕ) → ExactlyWhen (enterOf m p v .answer) (enterLines m p)
+  pub step : (m : Machine) (p : ℕ) → ExactlyWhen (stepOf m p .answer) (stepLines m p)
+  pub crash : (m : Machine) (p : ℕ) → ExactlyWhen (crashOf m p .answer) (crashLines m p)
+  -- of every state that the declared types hold
+  pub finish : (m : Machine) → Held m → (p : ℕ) → ExactlyWhenAlone m p
+  -- "A look at a process refuses 1, 2"
+  pub look : (m : Machine) (p : ℕ) → ExactlyWhen (lookOf m p .answer) (always m p)
+  -- "A new machine is refused with 8 only"
+  pub new : (n : ℕ) → ExactlyWhen (newOf n .answer) (newLines n)
 
 -- "The lowest number that applies is given": the numbers of every call's lines ascend, and so the number of the first line that applies is the
--- lowest of all that apply. k is below the numbers of all the lines:
+-- lowest of all that apply. (Finishing alone has the lines of a crash and then 7, as a step has.) k is below the numbers of all the lines:
 abbrev pub below : ℕ → List Line → Bool
 below k [] = true
 below k (l ∷ ls) = ltb k (l .number) && below k ls
@@ -151,20 +179,8 @@ pub record LinesAscend : Type 0 where
   pub enter : (m : Machine) (p : ℕ) → ascending (enterLines m p) ≡ true
   pub step : (m : Machine) (p : ℕ) → ascending (stepLines m p) ≡ true
   pub crash : (m : Machine) (p : ℕ) → ascending (crashLines m p) ≡ true
-  pub finish : (m : Machine) (p : ℕ) → ascending (finishLines m p) ≡ true
   pub look : (m : Machine) (p : ℕ) → ascending (always m p) ≡ true
-  pub lowest-applies : (ls : List Line) → ascending ls ≡ true → (l : Line) → List·Memᴰ l ls → l .applies ≡ true → firstThat ls ≤ l .number
-
--- "The lowest number that applies is given for machine calls (1 to 7)." Finishing alone goes on after 6 with the numbers of its steps.
-pub record TableOfNumbers : Type 0 where
-  pub enter : (m : Machine) (p v : ℕ) → numberOf (enterOf m p v .answer) ≡ firstThat (enterLines m p)
-  pub step : (m : Machine) (p : ℕ) → numberOf (stepOf m p .answer) ≡ firstThat (stepLines m p)
-  pub crash : (m : Machine) (p : ℕ) → numberOf (crashOf m p .answer) ≡ firstThat (crashLines m p)
-  pub finish : (m : Machine) (p : ℕ) → firstThat (crashLines m p) ≢ 0 → numberOf (finishOf m p .answer) ≡ firstThat (crashLines m p)
-  -- "A look at a process refuses 1, 2"
-  pub look : (m : Machine) (p : ℕ) → numberOf (lookOf m p .answer) ≡ firstThat (always m p)
-  -- "A new machine is refused with 8 only"
-  pub new : (n : ℕ) → numberOf (newOf n .answer) ≡ firstThat (when 8 (not (leb 1 n && leb n 32)) ∷ [])
+  pub lowest : (k : ℕ) (ls : List Line) → ascending ls ≡ true → FirstLine k ls → (l : Line) → List·Memᴰ l ls → l .applies ≡ true → k ≤ l .number
 
 -- Demand 2: "An accepted enter or crash does to its task what rules 2, 3 and 6 of document 01 say, the batch number kept as it was given, and
 -- changes nothing else." `m′` is what a call of process p leaves of m.
@@ -207,9 +223,12 @@ pub record EffectsOfCalls : Type 0 where
   pub crash : (m : Machine) → Held m → (p : ℕ) → accepted (crashOf m p) ≡ true → CrashEffect m (crashOf m p .machine) p
   pub step : (m : Machine) → Held m → (p : ℕ) → accepted (stepOf m p) ≡ true → StepEffect m (stepOf m p .machine) p
 
--- Rule 7: "Accesses of a process = (n+1)(n-level) + accesses at this level, where a finished process has n+1 at its level." Each accepted step is
--- one access more; an enter and a crash make none. A process makes at most n(n+1).
+-- Rule 7: "Accesses of a process = (n+1)(n-level) + accesses at this level, where a finished process has n+1 at its level. Absent: 0." Each accepted
+-- step is one access more; an enter and a crash make none. A process makes at most n(n+1).
 pub record AccessesOfCalls : Type 0 where
+  pub sum : (n : ℕ) (s : Stage) → entered s ≡ true → accessesOf n s ≡ (n + 1) * (n - levelOf s) + madeOf n s
+  pub whole : (n x w : ℕ) → madeOf n (Finished x w) ≡ n + 1
+  pub absent : (n : ℕ) → accessesOf n Absent ≡ 0
   pub enter : (m : Machine) → Held m → (p v : ℕ) → accepted (enterOf m p v) ≡ true
       → (accessesOf (m .n) (stageOf m p) ≡ 0) × (accessesOf (m .n) (stageOf (enterOf m p v .machine) p) ≡ 0)
   pub step : (m : Machine) → Held m → (p : ℕ) → accepted (stepOf m p) ≡ true
@@ -220,22 +239,9 @@ pub record AccessesOfCalls : Type 0 where
       → accessesOf (m .n) (stageOf m p) ≡ (m .n + 1) * (m .n - size (foundOf (stageOf m p)) + 1)
   pub most : (m : Machine) → Shaped m → (p : ℕ) → 1 ≤ p → p ≤ m .n → accessesOf (m .n) (stageOf m p) ≤ m .n * (m .n + 1)
 
--- Rule 8: "Finishing alone: a call for one process makes its steps until it finishes. .. It equals that many single steps."
-pub record FinishedAlone (m : Machine) (p : ℕ) : Type 0 where
-  pub ended : finished (stageOf (finishOf m p .machine) p) ≡ true
-  pub steps : stepsOf (accessesOf (m .n) (stageOf (finishOf m p .machine) p) - accessesOf (m .n) (stageOf m p)) m p ≡ finishOf m p
-
--- "If one of these steps would be refused, the call is refused with that number and the state is as at entry." The number is 7.
-pub record RefusedAlone (m : Machine) (p : ℕ) : Type 0 where
-  pub steps : ℕ
-  pub made : accepted (stepsOf steps m p) ≡ true
-  pub next : stepOf (stepsOf steps m p .machine) p .answer ≡ finishOf m p .answer
-  pub number : finishOf m p .answer ≡ NotAlone
-  pub state : finishOf m p .machine ≡ m
-
--- for every state that the types allow; the lines 1, 2, 4, 5, 6 come first
+-- Rule 8: "It equals that many single steps": as many as finish the process, which are the accesses that it makes. A refused one leaves the state
+-- "as at entry": `RefusedHandsBack`.
 pub record FinishingAlone : Type 0 where
-  pub number : (m : Machine) → Held m → (p : ℕ) → numberOf (finishOf m p .answer) ≡ firstThat (finishLines m p)
-  pub accepts : (m : Machine) → Held m → (p : ℕ) → accepted (finishOf m p) ≡ true → FinishedAlone m p
-  pub refuses : (m : Machine) → Held m → (p : ℕ) → firstThat (crashLines m p) ≡ 0 → accepted (finishOf m p) ≡ false → RefusedAlone m p
-  pub closed : (m : Machine) → Held m → (p : ℕ) → finishOf m p ≡ aloneOf m p
+  pub equals : (m : Machine) → Held m → (p : ℕ) → accepted (finishOf m p) ≡ true → (s : Finishes m p) → finishOf m p ≡ stepsOf (s .steps) m p
+  pub count : (m : Machine) → Held m → (p : ℕ) → accepted (finishOf m p) ≡ true → (s : Finishes m p)
+      → accessesOf (m .n) (stageOf (finishOf m p .machine) p) ≡ accessesOf (m .n) (stageOf m p) + s .steps

@@ -31,7 +31,7 @@ pub enum Answer {
     NeverEntered,
     HasCrashed,
     HasFinished,
-    NotAlone,
+    NoLevelBelow,
     OutOfRange,
 }
 

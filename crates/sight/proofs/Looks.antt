@@ -1,11 +1,9 @@
 -- A look as the code makes it.
-use mathlib.Core.Path.{_≡_, ap, _∙_}
+use mathlib.Core.Path.{_≡_, sym, ap}
 use mathlib.Core.Bool.{Bool, true, false, _&&_, cond, true≢false}
 use mathlib.Core.List.{List}
-use Prim.Native.Nat.{ℕ, _-_}
+use Prim.Native.Nat.{ℕ}
 use lib.Dec.{leb}
-use borrow.Author.Tests.{le-leb}
-use Rattle.rules.specs.declared.Stage.{Stage}
 use Rattle.rules.specs.declared.Machine.{Machine}
 use Rattle.rules.specs.declared.Answer.{Answer}
 use Rattle.rules.specs.declared.Answer.the-variants.{Done, NotShaped, NoProcess}
@@ -14,12 +12,10 @@ use Rattle.rules.specs.declared.Sight.{Sight}
 use Rattle.rules.specs.State.{processOf, stageOf}
 use Rattle.rules.specs.Shape.{shaped}
 use Rattle.rules.specs.Calls.{valuesOf, looked, blindly, unseen, lookOf}
-use Rattle.rules.specs.Statements.{Valid}
-use Rattle.rules.proofs.Laws.Small.{both, cond-true}
+use Rattle.rules.proofs.Laws.Looks.{no-values}
 use Rattle.moves.specs.declared.Asked.{Asked}
-use Rattle.moves.specs.Asked.{askedOf}
+use Rattle.moves.specs.Coded.Asked.{askedOf}
 use Rattle.moves.proofs.Laws.{answerIn, isRecord}
-use Rattle.sight.proofs.Values.{no-values}
 
 pub refused-look : (m : Machine) (p : ℕ) (a : Answer) → askedOf m p ≡ Asked.Refused a → lookOf m p ≡ unseen a
 unfolding lookOf
@@ -31,16 +27,8 @@ refused-look m p a = go (shaped m) (leb 1 p && leb p (m .n))
     go true false e = ap (λ (f : Asked). unseen (answerIn f)) e
     go false r e = ap (λ (f : Asked). unseen (answerIn f)) e
 
--- past both tests a look shows the stage
-pub look-shows : (m : Machine) (p : ℕ) → Valid m p → (s : Stage) → stageOf m p ≡ s → lookOf m p ≡ looked m s
-unfolding lookOf
-look-shows m p h s e =
-    cond-true (shaped m) _ (unseen NotShaped) (h .shape)
-    ∙ cond-true (leb 1 p && leb p (m .n)) _ (unseen NoProcess) (both (leb 1 p) (leb p (m .n)) (le-leb 1 p (h .low)) (le-leb p (m .n) (h .high)))
-    ∙ ap (looked m) e
-
 -- a look without a view shows no values
 pub looked-blindly : (m : Machine) (s : Standing) (x k : ℕ)
     → blindly Done s x k ≡ record { answer = Done; standing = s; level = x; accesses = k; view = 0; values = valuesOf m x 0 }
 looked-blindly m s x k =
-    ap {B = Sight} (λ (v : List ℕ). record { answer = Done; standing = s; level = x; accesses = k; view = 0; values = v }) (no-values (m .values) x)
+    ap {B = Sight} (λ (v : List ℕ). record { answer = Done; standing = s; level = x; accesses = k; view = 0; values = v }) (sym (no-values (m .values) x))

@@ -1,27 +1,20 @@
 -- The values that a look shows, element by element, and the numbers that rule 7 gives.
-use mathlib.Core.Path.{_≡_, refl, sym, ap, ap₂, _∙_}
-use mathlib.Core.Bool.{Bool, cond}
+use mathlib.Core.Path.{_≡_, sym, ap₂, _∙_}
+use mathlib.Core.Bool.{cond}
 use mathlib.Core.List.{List}
-use Prim.Native.Nat.{ℕ, zero, suc, _+_, _-_, _*_, _≤_}
+use Prim.Native.Nat.{ℕ, _+_, _-_, _*_, _≤_}
 use native.Mathlib.Nat.{mul-le-mul}
 use native.Mathlib.Omega.{arith}
-use lib.ListN.{length, getD, replicate}
+use lib.ListN.{length, getD}
 use lib.Seq.{ext-getD}
 use Rattle.sets.specs.Sets.{has}
-use Rattle.sets.proofs.Laws.{has-zero}
-use Rattle.rules.specs.State.{cellIn}
 use Rattle.rules.specs.Calls.{rowValues}
-use Rattle.rules.proofs.Laws.Looks.{row-values-at}
-use Rattle.shape.proofs.Arrays.{getD-zeros, Upto}
+use Rattle.rules.proofs.Laws.Looks.{row-values-at, row-values-long}
+use Rattle.shape.proofs.Arrays.{Upto}
 
 -- n is at most 32, so the accesses of a process are few
 pub few : (n x : ℕ) → n ≤ 32 → (n + 1) * (n - x) ≤ 1056
 few n x h = mul-le-mul (let a : n + 1 ≤ 33 = omega arith in a) (let b : n - x ≤ 32 = omega arith in b)
-
-row-values-long : (values : List ℕ) (x w i k : ℕ) → length (rowValues values x w i k) ≡ k
-unfolding rowValues
-row-values-long values x w i zero = refl
-row-values-long values x w i (suc k) = ap suc (row-values-long values x w (suc i) k)
 
 -- an array that holds at k what process k + 1's register shows is those values
 pub values-all : (values : List ℕ) (x w : ℕ) (out : List ℕ) → length out ≡ 32
@@ -33,11 +26,3 @@ values-all values x w out n u =
     ∙ ap₂ (λ (p q : ℕ). cond (has w p) (getD values (32 * (x - 1) + q) 0) 0) (let e : k + 1 ≡ 1 + k = omega arith in e)
     (let e : k ≡ 1 + k - 1 = omega arith in e)
     ∙ sym (row-values-at values x w 1 32 k (omega arith)))
-
--- no view, no values
-pub no-values : (values : List ℕ) (x : ℕ) → replicate 32 0 ≡ rowValues values x 0 1 32
-no-values values x =
-    ext-getD 0 (replicate 32 0) (rowValues values x 0 1 32) (sym (row-values-long values x 0 1 32))
-    (λ k h.
-    getD-zeros 32 k
-    ∙ sym (row-values-at values x 0 1 32 k (omega arith) ∙ ap (λ (b : Bool). cond b (cellIn values x (1 + k)) 0) (has-zero (1 + k))))

@@ -33,7 +33,7 @@ fn number(a: Answer) -> u64 {
         Answer::NeverEntered => 4,
         Answer::HasCrashed => 5,
         Answer::HasFinished => 6,
-        Answer::NotAlone => 7,
+        Answer::NoLevelBelow => 7,
         Answer::OutOfRange => 8,
     }
 }

@@ -5,7 +5,7 @@ use native.Mathlib.Omega.{arith}
 use borrow.Author.Needs.{needs}
 use lib.ListN.{set}
 use Rattle.rules.specs.declared.Machine.{Machine}
-use Rattle.rules.specs.Alone.{filledDown}
+use Rattle.rules.specs.Coded.Alone.{filledDown}
 use Rattle.alone.proofs.Descent.{down-more, down-none}
 use Rattle.alone.proofs.fill_down.Statement.{statement}
 use Rattle.alone.proofs.fill_down.Tie as tie

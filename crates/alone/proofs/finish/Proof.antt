@@ -1,4 +1,4 @@
--- `finish` meets its contract: refused as what was found says; a running process descends as the recursion does, and `alone-is` says that this is what
+-- `finish` meets its contract: refused as what was found says; a running process descends as the recursion does, and `alone-is-finishing` says that this is what
 -- its single steps come to.
 use mathlib.Core.Path.{_≡_, refl, sym, ap, ap₂, subst, _∙_}
 use Prim.Native.Nat.{ℕ, _+_, _-_}
@@ -10,9 +10,9 @@ use Rattle.rules.specs.declared.Called.{Called}
 use Rattle.rules.specs.declared.Landing.the-variants.{Lands}
 use Rattle.rules.specs.State.{stageOf, rowOf, withProcess}
 use Rattle.rules.specs.Calls.{done, finishAt, finishOf}
-use Rattle.rules.specs.Alone.{landing, filledDown, topRow, landed, aloneAt, aloneOf}
+use Rattle.rules.specs.Coded.Alone.{landing, filledDown, topRow, landed, aloneAt, aloneOf}
 use Rattle.rules.proofs.Laws.Did.{goes-on}
-use Rattle.rules.proofs.Laws.Alone.{alone-is}
+use Rattle.rules.proofs.Laws.Alone.{alone-is-finishing}
 use Rattle.rules.proofs.Typed.{machine-held}
 use Rattle.moves.proofs.Laws.{refused-mover, Runs, runs, running-low, place, at-most-32}
 use Rattle.alone.proofs.Descent.{Reachable, ends-within, top-range}
@@ -43,7 +43,7 @@ unfolding aloneOf
 alone-runs c =
     let a = c .before .before .before .before .before .before .before .before .args in
     let r = at c in
-    alone-is (a .t1) (machine-held (a .t1) (c .before .before .before .before .before .before .before .before .good .0)) (a .p)
+    alone-is-finishing (a .t1) (machine-held (a .t1) (c .before .before .before .before .before .before .before .before .good .0)) (a .p)
     ∙ goes-on (a .t1) (a .p) (r .valid) (aloneAt (stageOf (a .t1) (a .p)) (a .t1) (a .p)) ∙ ap (λ (s : Stage). aloneAt s (a .t1) (a .p)) (r .stage)
 
 descend-requires : tie.Need-descend-requires

@@ -2,7 +2,7 @@
 use mathlib.Core.Path.{ap, _∙_}
 use lib.Bits.{bitOr}
 use borrow.Author.Tests.{eq-eqb}
-use Rattle.rules.specs.Alone.{gathered}
+use Rattle.rules.specs.Coded.Alone.{gathered}
 use Rattle.alone.proofs.Descent.{gathered-later}
 use borrow.Author.Needs.{needs}
 use Rattle.alone.proofs.gather.Statement.{statement}

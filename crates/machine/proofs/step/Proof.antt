@@ -1,16 +1,15 @@
 -- `step` meets its contract: what its move says, and each way out is the definition at that move.
-use mathlib.Core.Path.{_≡_, sym, ap, ap₂, _∙_}
+use mathlib.Core.Path.{_≡_, sym, ap, _∙_}
 use Prim.Native.Nat.{ℕ, _+_, _-_, _*_, _≤_}
 use native.Mathlib.Omega.{arith}
 use lib.ListN.{set}
 use Rattle.rules.specs.declared.Stage.the-variants.{Running}
 use Rattle.rules.specs.declared.Machine.{Machine}
 use Rattle.rules.specs.declared.Called.{Called}
-use Rattle.rules.specs.State.{valueOf, withProcess}
 use Rattle.rules.specs.Calls.{done}
 use Rattle.rules.specs.Statements.{Valid}
 use Rattle.moves.specs.declared.Move.{Move}
-use Rattle.moves.specs.Moves.{moveOf}
+use Rattle.moves.specs.Coded.Moves.{moveOf}
 use Rattle.moves.proofs.Laws.{Runs, running-low, place, step-moves, write-runs, turn-valid}
 use borrow.Author.Needs.{needs}
 use Rattle.machine.proofs.step.Statement.{statement}
@@ -95,11 +94,11 @@ enum-known-stage : tie.Need-enum-known-stage
 enum-known-stage c = search needs
 
 -- who turns is a process of the machine
-turned : (c : tie.After-known-told3) → Valid (Ms (c .before .before .before)) (P (c .before .before .before)) × (valueOf (Ms (c .before .before .before)) (P (c .before .before .before)) ≡ c .before .stage .given .0 .1 .0)
+turned : (c : tie.After-known-told3) → Valid (Ms (c .before .before .before)) (P (c .before .before .before))
 turned c = turn-valid _ _ _ _ (moves (c .before .before .before) _ (c .before .stage .given .1))
 
 sub-t34 : tie.Need-sub-t34
-sub-t34 c = turned c .0 .low
+sub-t34 c = turned c .low
 
 cast-t35 : tie.Need-cast-t35
 cast-t35 c = search needs
@@ -108,7 +107,7 @@ mul-t36 : tie.Need-mul-t36
 mul-t36 c = search needs
 
 element-set-from-m-2 : tie.Need-element-set-from-m-2
-element-set-from-m-2 c = place (turned c .0)
+element-set-from-m-2 c = place (turned c)
 
 returns : tie.Need-returns
 returns c =
@@ -120,27 +119,24 @@ returns-2 c =
     let d = c .before .before .before .before .before in
     let g = c .before .before .before .level .given in
     let x : ℕ = g .0 .0 in
-    let f : ℕ = g .0 .1 .0 in
+    let v : ℕ = g .0 .1 .1 .0 in
     let m = Ms d in
-    ap₂ {C = Called}
-    (λ (s v : ℕ).
+    ap {B = Called}
+    (λ (s : ℕ).
     done
     (record {
       n = m .n;
       filled = set (m .filled) (x - 1) s;
       values = set (m .values) (32 * (x - 1) + (P d - 1)) v;
-      processes = set (m .processes) (P d - 1) (record { stage = Running x 1 f; value = v });
+      processes = set (m .processes) (P d - 1) (record { stage = Running x 1 (g .0 .1 .0); value = v });
     }))
     (c .plus .ensures)
-    (sym (at (c .before .before) .value))
     ∙ sym (step-moves m (P d) _ (moves d _ (g .1)))
 
 returns-3 : tie.Need-returns-3
 returns-3 c =
     let d = c .before .before .before in
-    let g = c .before .stage .given in
-    ap (λ (v : ℕ). done (withProcess (Ms d) (P d) (record { stage = g .0 .0; value = v }))) (sym (turned c .1))
-    ∙ sym (step-moves (Ms d) (P d) _ (moves d _ (g .1)))
+    sym (step-moves (Ms d) (P d) _ (moves d _ (c .before .stage .given .1)))
 
 pub step-spec : {M : Type 1} → statement M
 step-spec =

@@ -1,7 +1,7 @@
 -- `as_it_runs` meets its contract: each arm is given that the stage is its constructor.
 use mathlib.Core.Path.{sym, ap}
 use Rattle.rules.specs.declared.Stage.{Stage}
-use Rattle.moves.specs.Asked.{moverBy}
+use Rattle.moves.specs.Coded.Asked.{moverBy}
 use borrow.Author.Needs.{needs}
 use Rattle.moves.proofs.as_it_runs.Statement.{statement}
 use Rattle.moves.proofs.as_it_runs.Tie as tie

@@ -1,6 +1,6 @@
 -- `find_running` meets its contract: each arm is given what was found.
 use mathlib.Core.Path.{sym, ap, _∙_}
-use Rattle.moves.specs.Asked.{moverIn}
+use Rattle.moves.specs.Coded.Asked.{moverIn}
 use borrow.Author.Needs.{needs}
 use Rattle.moves.proofs.find_running.Statement.{statement}
 use Rattle.moves.proofs.find_running.Tie as tie

@@ -7,8 +7,8 @@ use borrow.Author.Tests.{eq-eqb, ne-eqb}
 use Rattle.rules.specs.declared.Machine.{Machine}
 use Rattle.rules.proofs.Laws.Small.{cond-true, cond-false}
 use Rattle.moves.specs.declared.Mover.{Mover}
-use Rattle.moves.specs.Asked.{moverOf}
-use Rattle.moves.specs.Moves.{moveIn}
+use Rattle.moves.specs.Coded.Asked.{moverOf}
+use Rattle.moves.specs.Coded.Moves.{moveIn}
 use Rattle.moves.proofs.Laws.{runs, running-low}
 use borrow.Author.Needs.{needs}
 use Rattle.moves.proofs.next_move.Statement.{statement}

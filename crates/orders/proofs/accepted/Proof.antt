@@ -6,7 +6,7 @@ use types.Run.{OneOf, miss}
 use denote.Enum.Declared.{tagOf}
 use lib.Dec.{eqb}
 use Rattle.rules.specs.declared.Answer.{Answer}
-use Rattle.rules.specs.declared.Answer.the-variants.{Done, NotShaped, NoProcess, EnteredBefore, NeverEntered, HasCrashed, HasFinished, NotAlone, OutOfRange}
+use Rattle.rules.specs.declared.Answer.the-variants.{Done, NotShaped, NoProcess, EnteredBefore, NeverEntered, HasCrashed, HasFinished, NoLevelBelow, OutOfRange}
 use Rattle.rules.specs.Calls.{numberOf}
 use Rattle.rules.proofs.Answer.{the-type}
 use borrow.Author.Needs.{needs}
@@ -24,7 +24,7 @@ refused EnteredBefore h = refl
 refused NeverEntered h = refl
 refused HasCrashed h = refl
 refused HasFinished h = refl
-refused NotAlone h = refl
+refused NoLevelBelow h = refl
 refused OutOfRange h = refl
 
 returns : tie.Need-returns

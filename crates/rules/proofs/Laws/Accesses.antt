@@ -1,5 +1,5 @@
 -- Rule 7: the accesses that a process has made are counted by its accepted steps.
-use mathlib.Core.Path.{_≡_, sym, ap, _∙_}
+use mathlib.Core.Path.{_≡_, refl, sym, ap, _∙_}
 use mathlib.Core.Bool.{true, false≢true}
 use Prim.Native.Nat.{ℕ, suc, _+_, _-_, _*_, _≤_}
 use native.Mathlib.Nat.{mul-suc, mul-comm, mul-le-mul-left}
@@ -10,11 +10,12 @@ use Rattle.rules.specs.declared.Stage.the-variants.{Absent, Running, Fin
 use Rattle.rules.specs.declared.Process.{Process}
 use Rattle.rules.specs.declared.Machine.{Machine}
 use Rattle.rules.specs.declared.Called.{Called}
-use Rattle.rules.specs.State.{stageOf, valueOf, rowOf, finished, foundOf, accessesOf, withProcess, withRegister}
+use Rattle.rules.specs.State.{stageOf, valueOf, rowOf, entered, finished, levelOf, madeOf, foundOf, accessesOf, withProcess, withRegister}
 use Rattle.rules.specs.Shape.{Held, ShapedStage, Shaped}
 use Rattle.rules.specs.Calls.{enterOf, stepOf, crashOf}
-use Rattle.rules.specs.Statements.{Valid, DidEnter, DidCrash, DidStep, did-write, did-read, did-finish, did-fall, AccessesOfCalls}
+use Rattle.rules.specs.Statements.{Valid, AccessesOfCalls}
 use Rattle.rules.proofs.Laws.Stores.{process-same}
+use Rattle.rules.proofs.Laws.Did.{DidEnter, DidCrash, DidStep, did-write, did-read, did-finish, did-fall}
 use Rattle.rules.proofs.Laws.Did.{running, what-calls-did}
 use Rattle.rules.proofs.Laws.Keeps.{held-register}
 use Rattle.rules.proofs.Laws.Effects.{in-range}
@@ -110,9 +111,19 @@ stage-finished n row (Crashed x k f) h e = absurd (false≢true e)
 of-shape : (m : Machine) → Shaped m → (p : ℕ) → 1 ≤ p → p ≤ m .n → ShapedStage (m .n) (rowOf m) (stageOf m p)
 of-shape m s p lo hi = let h32 : p ≤ 32 = omega (arith, s .most) in s .process p lo h32 .stage
 
+-- rule 7, by the stage
+by-level : (n : ℕ) (s : Stage) → entered s ≡ true → accessesOf n s ≡ (n + 1) * (n - levelOf s) + madeOf n s
+by-level n Absent e = absurd (false≢true e)
+by-level n (Running x k f) e = refl
+by-level n (Finished x w) e = refl
+by-level n (Crashed x k f) e = refl
+
 pub accesses-of-calls : AccessesOfCalls
 accesses-of-calls =
     record {
+      sum = by-level;
+      whole = λ n x w. refl;
+      absent = λ n. refl;
       enter = λ m h p v a. enter-none m h p v (what-calls-did .enter m p v a .0) (enterOf m p v) (what-calls-did .enter m p v a .1);
       step = λ m h p a. step-one m h p (what-calls-did .step m p a .0) (stepOf m p) (what-calls-did .step m p a .1);
       crash = λ m h p a. crash-none m h p (what-calls-did .crash m p a .0) (crashOf m p) (what-calls-did .crash m p a .1);

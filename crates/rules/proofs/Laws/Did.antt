@@ -1,7 +1,7 @@
 -- What each call does, from what stands to the result, and what an accepted call did.
 use mathlib.Core.Path.{_≡_, refl, sym, ap, subst, _∙_}
 use mathlib.Core.Logic.{_⊎_, inl, inr, _≢_}
-use mathlib.Core.Bool.{Bool, true, false, _&&_, cond, false≢true}
+use mathlib.Core.Bool.{Bool, true, false, not, _&&_, cond, false≢true}
 use Prim.Native.Nat.{ℕ, _+_, _-_, _≤_, _<_}
 use native.Mathlib.Omega.{arith}
 use lib.Dec.{leb, ltb, eqb}
@@ -10,15 +10,14 @@ use Rattle.sets.specs.Sets.{size}
 use Rattle.rules.specs.declared.Stage.{Stage}
 use Rattle.rules.specs.declared.Stage.the-variants.{Absent, Running, Finished, Crashed}
 use Rattle.rules.specs.declared.Machine.{Machine}
-use Rattle.rules.specs.declared.Answer.the-variants.{NotShaped, NoProcess, NotAlone}
+use Rattle.rules.specs.declared.Answer.the-variants.{NotShaped, NoProcess, NoLevelBelow, OutOfRange}
 use Rattle.rules.specs.declared.Called.{Called}
-use Rattle.rules.specs.State.{stageOf, rowOf, withProcess, withStage}
+use Rattle.rules.specs.State.{nobody, stageOf, rowOf, withProcess, withStage}
 use Rattle.rules.specs.Shape.{Going, ShapedStage, Shaped, shaped}
-use Rattle.rules.specs.Calls.{accepted, done, refused, tested, enterAt, enterOf, crashAt, crashOf, reading, write, settle, access}
+use Rattle.rules.specs.Calls.{accepted, done, refused, fresh, newOf, tested, enterAt, enterOf, crashAt, crashOf, reading, write, settle, access}
 use Rattle.rules.specs.Calls.{stepAt, stepOf}
-use Rattle.rules.specs.Statements.{Valid, DidEnter, DidCrash, DidStep, did-write, did-read, did-finish, did-fall, DidStick, WhatCallsDid}
-use Rattle.rules.specs.Statements.{WhatCallsDo}
-use Rattle.rules.proofs.Laws.Small.{both, and-first, and-second, cond-true, cond-false, equal-or-not}
+use Rattle.rules.specs.Statements.{Valid, atLast, NewMachine, WhatCallsDo, ValidIsTested}
+use Rattle.rules.proofs.Laws.Small.{both, and-first, and-second, cond-true, cond-false, equal-or-not, blank}
 use Rattle.rules.proofs.Laws.Shape.{shaped-record}
 
 -- neither 1 nor 2 applies: the call goes on
@@ -36,6 +35,31 @@ went-on m p c e = go (shaped m) (leb 1 p && leb p (m .n)) refl refl e
     go true true s r a = record { shape = s; low = leb-true 1 p (and-first (leb 1 p) _ r); high = leb-true p (m .n) (and-second (leb 1 p) _ r) }
     go true false s r a = absurd (false≢true a)
     go false r s r′ a = absurd (false≢true a)
+
+pub valid-is-tested : ValidIsTested
+valid-is-tested m p = (to, back)
+  where
+    in-range : Bool
+    in-range = leb 1 p && leb p (m .n)
+
+    twice : (b : Bool) → not (not b) ≡ true → b ≡ true
+    twice true e = refl
+    twice false e = e
+
+    to : Valid m p → (not (not (shaped m)) && (not (not in-range) && true)) ≡ true
+    to h =
+        both (not (not (shaped m))) _ (ap (λ b. not (not b)) (h .shape))
+        (both (not (not in-range)) true
+        (ap (λ b. not (not b)) (both (leb 1 p) (leb p (m .n)) (le-leb 1 p (h .low)) (le-leb p (m .n) (h .high)))) refl)
+
+    back : (not (not (shaped m)) && (not (not in-range) && true)) ≡ true → Valid m p
+    back e =
+        let r : in-range ≡ true = twice in-range (and-first (not (not in-range)) true (and-second (not (not (shaped m))) _ e)) in
+        record {
+          shape = twice (shaped m) (and-first (not (not (shaped m))) _ e);
+          low = leb-true 1 p (and-first (leb 1 p) (leb p (m .n)) r);
+          high = leb-true p (m .n) (and-second (leb 1 p) (leb p (m .n)) r);
+        }
 
 -- what a running process of a well shaped machine has
 pub running : (m : Machine) (p : ℕ) → Valid m p → (x k f : ℕ) → stageOf m p ≡ Running x k f → Going (m .n) (rowOf m) x k f
@@ -89,11 +113,20 @@ unfolding settle
 settle-fall m p x f ne lo =
     let more : x ≢ 1 = omega arith in
     cond-false (eqb (size f) x) (done (withStage m p (Finished x f))) _ (ne-eqb (size f) x ne)
-    ∙ cond-false (eqb x 1) (refused NotAlone m) (done (withStage m p (Running (x - 1) 0 0))) (ne-eqb x 1 more)
+    ∙ cond-false (eqb x 1) (refused NoLevelBelow m) (done (withStage m p (Running (x - 1) 0 0))) (ne-eqb x 1 more)
 
-pub settle-stick : (m : Machine) (p f : ℕ) → size f ≢ 1 → settle m p 1 f ≡ refused NotAlone m
+pub settle-stick : (m : Machine) (p f : ℕ) → size f ≢ 1 → settle m p 1 f ≡ refused NoLevelBelow m
 unfolding settle
 settle-stick m p f ne = cond-false (eqb (size f) 1) (done (withStage m p (Finished 1 f))) _ (ne-eqb (size f) 1 ne)
+
+pub new-machine : NewMachine
+unfolding newOf
+new-machine =
+    record {
+      made = λ n lo hi.
+          cond-true (leb 1 n && leb n 32) (done (fresh n)) (refused OutOfRange (fresh 1)) (both (leb 1 n) (leb n 32) (le-leb 1 n lo) (le-leb n 32 hi));
+      absent = λ n p. ap (λ P. P .stage) (blank 32 (p - 1) nobody);
+    }
 
 -- a machine with a process has at least one
 pub some : (m : Machine) (p : ℕ) → Valid m p → 1 ≤ m .n
@@ -110,6 +143,41 @@ what-calls-do =
       falls = λ m p h x f e s lo. steps m p h x (m .n) f e ∙ access-last m p x f (some m p h) ∙ settle-fall m p x _ s lo;
       sticks = λ m p h f e s. steps m p h 1 (m .n) f e ∙ access-last m p 1 f (some m p h) ∙ settle-stick m p _ s;
     }
+
+-- What an accepted call did. Rule 3: "Entering gives a process its value and puts it at level n with no access made. It touches no register."
+pub record DidEnter (m : Machine) (p v : ℕ) (c : Called) : Type 0 where
+  pub was : stageOf m p ≡ Absent
+  pub left : c ≡ done (withProcess m p (record { stage = Running (m .n) 0 0; value = v }))
+
+-- Rule 6: "A crashed process never moves again. What it wrote stays."
+pub record DidCrash (m : Machine) (p : ℕ) (c : Called) : Type 0 where
+  pub level : ℕ
+  pub made : ℕ
+  pub found : ℕ
+  pub was : stageOf m p ≡ Running level made found
+  pub left : c ≡ done (withStage m p (Crashed level made found))
+
+-- Rules 4 and 5: the write; a read that is not the last; the last read, which finishes or goes to the next lower level.
+pub data DidStep (m : Machine) (p : ℕ) (c : Called) : Type 0 where
+  did-write : (x f : ℕ) → stageOf m p ≡ Running x 0 f → c ≡ done (write m p x f) → DidStep m p c
+  did-read : (x k f : ℕ) → stageOf m p ≡ Running x k f → 1 ≤ k → k < m .n
+      → c ≡ done (withStage m p (Running x (k + 1) (reading (rowOf m x) k f))) → DidStep m p c
+  did-finish : (x f : ℕ) → stageOf m p ≡ Running x (m .n) f → size (atLast m x f) ≡ x
+      → c ≡ done (withStage m p (Finished x (atLast m x f))) → DidStep m p c
+  did-fall : (x f : ℕ) → stageOf m p ≡ Running x (m .n) f → size (atLast m x f) ≢ x → 2 ≤ x
+      → c ≡ done (withStage m p (Running (x - 1) 0 0)) → DidStep m p c
+
+-- "step at level 1 whose last read gives a count other than 1"
+pub record DidStick (m : Machine) (p : ℕ) (c : Called) : Type 0 where
+  pub found : ℕ
+  pub was : stageOf m p ≡ Running 1 (m .n) found
+  pub others : size (atLast m 1 found) ≢ 1
+  pub left : c ≡ refused NoLevelBelow m
+
+pub record WhatCallsDid : Type 0 where
+  pub enter : (m : Machine) (p v : ℕ) → accepted (enterOf m p v) ≡ true → Valid m p × DidEnter m p v (enterOf m p v)
+  pub crash : (m : Machine) (p : ℕ) → accepted (crashOf m p) ≡ true → Valid m p × DidCrash m p (crashOf m p)
+  pub step : (m : Machine) (p : ℕ) → accepted (stepOf m p) ≡ true → Valid m p × DidStep m p (stepOf m p)
 
 -- a running process makes a step or is stuck
 pub makes-step : (m : Machine) (p : ℕ) → Valid m p → (x k f : ℕ) → stageOf m p ≡ Running x k f → DidStep m p (stepOf m p) ⊎ DidStick m p (stepOf m p)

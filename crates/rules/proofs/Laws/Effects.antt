@@ -14,10 +14,11 @@ use Rattle.rules.specs.State.{processOf, stageOf, valueOf, rowOf, cellOf
 use Rattle.rules.specs.State.{withRegister}
 use Rattle.rules.specs.Shape.{Held, Shaped}
 use Rattle.rules.specs.Calls.{enterOf, crashOf, stepOf, write}
-use Rattle.rules.specs.Statements.{Valid, DidEnter, DidCrash, DidStep, did-write, did-read, did-finish, did-fall, OthersStay}
+use Rattle.rules.specs.Statements.{Valid, OthersStay}
 use Rattle.rules.specs.Statements.{EnterEffect, CrashEffect, StepEffect, EffectsOfCalls}
 use Rattle.rules.proofs.Laws.Stores.{process-same, process-other, cell-same, cell-other}
 use Rattle.rules.proofs.Laws.Shape.{shaped-record}
+use Rattle.rules.proofs.Laws.Did.{DidEnter, DidCrash, DidStep, did-write, did-read, did-finish, did-fall}
 use Rattle.rules.proofs.Laws.Did.{some, running, what-calls-did}
 use Rattle.rules.proofs.Laws.Keeps.{held-register, here, elsewhere}
 

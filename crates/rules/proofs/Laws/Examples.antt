@@ -12,8 +12,8 @@ use Rattle.rules.specs.State.{wrote, withRegister}
 use Rattle.rules.specs.Shape.{Held, shaped, shapedProcess, shapedRegister}
 use Rattle.rules.specs.Calls.{done, refused, fresh, newOf, reading, settle, access, rowValues}
 use Rattle.rules.specs.Statements.{Meets}
-use Rattle.rules.specs.Examples.{Row, Start, new, state, started, actsFrom, pairsOf, samePairs, holds, hold, passesBy, allPass, crowded}
-use Rattle.rules.specs.Examples.{p1, p2, p3, p4, p5, p6, p7, p8, refusals, table}
+use Rattle.rules.specs.Examples.{Example, Start, new, state, started, callsFrom, pairsOf, samePairs, holds, hold, passesBy, allPass, crowded, lonely}
+use Rattle.rules.specs.Examples.{p1, p2, p3, p4, p5, p6, p7, p8, refusals, others, table, EveryExamplePasses}
 use Rattle.rules.proofs.Laws.Small.{and-first, and-second}
 use Rattle.rules.proofs.Laws.Shape.{shaped-record}
 use Rattle.rules.proofs.Laws.Keeps.{meets-fresh, held-fresh, held-process, held-register}
@@ -37,12 +37,25 @@ crowded-meets =
     registers : Held (withRegister (withRegister (withRegister (withRegister (fresh 2) 2 1 7) 2 2 9) 1 1 7) 1 2 9)
     registers = held-register _ (held-register _ (held-register _ (held-register _ (held-fresh 2) 2 1 7) 2 2 9) 1 1 7) 1 2 9
 
--- A row starts with a new machine, whatever its n, or with a state that is well shaped.
+-- So is the one with a count of 0.
+pub lonely-shaped : shaped lonely ≡ true
+unfolding shaped shapedProcess shapedRegister every within first has plus count size wrote
+lonely-shaped = refl
+
+lonely-meets : Meets 2 lonely
+lonely-meets =
+    record {
+      size = refl;
+      held = held-process _ (held-register _ (held-register _ (held-fresh 2) 2 1 7) 1 1 7) 1 (record { stage = Running 1 2 0; value = 7 }) (lit< tt);
+      shape = shaped-record lonely lonely-shaped;
+    }
+
+-- An example starts with a new machine, whatever its n, or with a state that is well shaped.
 abbrev Ready : Start → Type 0
 Ready (new n) = Unit {0}
 Ready (state m) = (n : ℕ) × Meets n m
 
-abbrev AllReady : List Row → Type 0
+abbrev AllReady : List Example → Type 0
 AllReady [] = Unit {0}
 AllReady (r ∷ rs) = Ready (r .start) × AllReady rs
 
@@ -67,11 +80,11 @@ start-meets : (s : Start) → Ready s → (k : ℕ) × Meets k (started s .machi
 start-meets (new n) r = new-meets n
 start-meets (state m) r = r
 
-unfoldable allPassBare : List Row → Bool
+unfoldable allPassBare : List Example → Bool
 allPassBare [] = true
 allPassBare (r ∷ rs) = passesBy bareTo bareLook r && allPassBare rs
 
-all-bare : (rs : List Row) → AllReady rs → allPass rs ≡ allPassBare rs
+all-bare : (rs : List Example) → AllReady rs → allPass rs ≡ allPassBare rs
 unfolding allPass allPassBare
 all-bare [] h = refl
 all-bare (r ∷ rs) h =
@@ -80,22 +93,22 @@ all-bare (r ∷ rs) h =
 
 -- The bare run, by computation.
 table-computes : allPassBare table ≡ true
-unfolding allPassBare hold holds actsFrom bareTo bareLook bareFrom bareSteps newOf reading settle access rowValues pairsOf samePairs has plus count size
+unfolding allPassBare hold holds callsFrom bareTo bareLook bareFrom bareSteps newOf reading settle access rowValues pairsOf samePairs has plus count size
 table-computes = refl
 
-abbrev allNew : List Row → Bool
+abbrev allNew : List Example → Bool
 allNew [] = true
 allNew (r ∷ rs) = isNew (r .start) && allNew rs
 
-news-ready : (rs more : List Row) → allNew rs ≡ true → AllReady more → AllReady (rs ++ more)
+news-ready : (rs more : List Example) → allNew rs ≡ true → AllReady more → AllReady (rs ++ more)
 news-ready [] more e h = h
 news-ready (r ∷ rs) more e h =
     (new-ready (r .start) (and-first (isNew (r .start)) (allNew rs) e), news-ready rs more (and-second (isNew (r .start)) (allNew rs) e) h)
 
 all-ready : AllReady table
 all-ready =
-    news-ready (p1 ++ p2 ++ p3 ++ p4 ++ p5 ++ p6 ++ p7) (p8 ++ refusals) refl
-    ((2, crowded-meets), ((2, crowded-meets), news-ready refusals [] refl tt))
+    news-ready (p1 ++ p2 ++ p3 ++ p4 ++ p5 ++ p6 ++ p7) (p8 ++ refusals ++ others) refl
+    ((2, crowded-meets), ((2, crowded-meets), ((2, lonely-meets), ((2, lonely-meets), news-ready (refusals ++ others) [] refl tt))))
 
-pub every-row-passes : allPass table ≡ true
-every-row-passes = all-bare table all-ready ∙ table-computes
+pub every-example-passes : EveryExamplePasses
+every-example-passes = all-bare table all-ready ∙ table-computes

@@ -1,38 +1,33 @@
--- Rule 8: finishing alone equals that many single steps, or is refused as the first refused of them.
+-- Rule 8: finishing alone is single steps up to the one that finishes the process, or up to the one that is refused with 7.
 use mathlib.Core.Path.{_≡_, refl, sym, ap, subst, _∙_}
 use mathlib.Core.Logic.{_⊎_, inl, inr, _≢_}
 use mathlib.Core.Bool.{Bool, true, false, not, _&&_, cond, false≢true, true≢false}
 use mathlib.Core.List.{[], _∷_}
-use Prim.Native.Nat.{ℕ, zero, suc, _+_, _-_, _≤_}
+use Prim.Native.Nat.{ℕ, zero, suc, _+_, _-_, _≤_, _<_}
 use native.Mathlib.Omega.{arith}
 use lib.Dec.{leb, eqb}
 use borrow.Author.Tests.{eqb-true, eq-eqb}
+use Rattle.sets.specs.Sets.{size}
+use Rattle.sets.specs.Lines.{when, firstThat}
 use Rattle.rules.specs.declared.Stage.{Stage}
 use Rattle.rules.specs.declared.Stage.the-variants.{Absent, Running, Finished, Crashed}
 use Rattle.rules.specs.declared.Machine.{Machine}
-use Rattle.rules.specs.declared.Answer.the-variants.{NotShaped, NoProcess, NotAlone}
+use Rattle.rules.specs.declared.Answer.the-variants.{NotShaped, NoProcess, NoLevelBelow}
 use Rattle.rules.specs.declared.Called.{Called}
-use Rattle.rules.specs.State.{stageOf, valueOf, rowOf, entered, finished, crashed, levelOf, madeOf, foundOf, accessesOf}
+use Rattle.rules.specs.State.{stageOf, rowOf, entered, finished, crashed, accessesOf}
 use Rattle.rules.specs.Shape.{Held, shaped}
-use Rattle.rules.specs.Calls.{numberOf, accepted, refused, stepOf, crashOf, onward, stepsOf, finishFrom, orAsAtEntry, finishAt, finishOf}
-use Rattle.rules.specs.declared.Landing.{Landing}
-use Rattle.rules.specs.declared.Landing.the-variants.{Lands, Stuck}
-use Rattle.rules.specs.Alone.{landing, filledDown, topRow, landed, aloneAt, aloneOf, isStuck, finishLines}
-use Rattle.sets.specs.Lines.{when, firstThat}
+use Rattle.rules.specs.Coded.Alone.{gathered}
+use Rattle.rules.specs.Calls.{numberOf, accepted, refused, crashOf, stepAt, stepOf, stepsOf, finishFrom, orAsAtEntry, finishAt, finishOf}
 use Rattle.rules.specs.Numbers.{crashLines}
-use Rattle.rules.specs.Statements.{Valid, Meets, FinishedAlone, RefusedAlone, FinishingAlone}
-use Rattle.rules.proofs.Laws.Small.{equal-or-not, cond-true}
-use Rattle.rules.proofs.Laws.Stores.{process-same}
+use Rattle.rules.specs.Statements.{Valid, Meets, none, FirstLine, Finishes, Sticks, ExactlyWhenAlone, FinishingAlone}
+use Rattle.rules.proofs.Laws.Small.{equal-or-not, at-most-or-above, cond-true}
 use Rattle.rules.proofs.Laws.Shape.{shaped-record}
 use Rattle.rules.proofs.Laws.Did.{goes-on, what-calls-did}
-use Rattle.rules.proofs.Laws.Numbers.{table-of-numbers}
-use Rattle.rules.proofs.Laws.Refused.{refused-hands-back}
-use Rattle.rules.proofs.Laws.Steps.{accepted-done, onward-accepted, onward-refused, steps-on, steps-off, steps-then, next, next-done}
-use Rattle.rules.proofs.Laws.Steps.{next-on}
-use Rattle.rules.proofs.Laws.Keeps.{every-state-meets, held-register}
-use Rattle.rules.proofs.Laws.Effects.{in-range}
+use Rattle.rules.proofs.Laws.Numbers.{first-given, given-first, none-first, first-none, number-crash, number-finish}
+use Rattle.rules.proofs.Laws.Steps.{steps-on, steps-off, steps-then}
+use Rattle.rules.proofs.Laws.Keeps.{every-state-meets}
 use Rattle.rules.proofs.Laws.Accesses.{accesses-of-calls}
-use Rattle.rules.proofs.Laws.Alone.{alone-at, alone-is}
+use Rattle.rules.proofs.Laws.Level.{Runs, going, ended-steps, ended-there, finishes-here, stuck-there, sticks-here, left, fell, left-runs, goes-below}
 
 -- the accepted steps are the accesses that they make
 pub steps-count : (k n : ℕ) (m : Machine) → Meets n m → (p : ℕ) → accepted (stepsOf k m p) ≡ true
@@ -83,24 +78,58 @@ first-refused (suc k) m p a = go (accepted (stepOf m p)) refl (first-refused k (
         }
     go false t further = record { steps = 0; made = refl; next = steps-off k m p t }
 
--- The recursion is steps, one after another, up to the first that is refused.
-from-steps : (x : ℕ) (m : Machine) (p : ℕ) → (k : ℕ) × (finishFrom x m p ≡ stepsOf k m p)
-unfolding finishFrom stepsOf
-from-steps zero m p = (0, refl)
-from-steps (suc x) m p = go (accepted c) (finished (stageOf (c .machine) p)) refl refl (from-steps x (c .machine) p)
+-- How the recursion ends: it is so many steps, after which p has finished, or the last of which is refused with 7.
+abbrev How : ℕ → Called → Type 0
+How p c = ((accepted c ≡ true) × (finished (stageOf (c .machine) p) ≡ true)) ⊎ (c .answer ≡ NoLevelBelow)
+
+record Ends (m : Machine) (p : ℕ) (c : Called) : Type 0 where
+  steps : ℕ
+  equal : c ≡ stepsOf steps m p
+  how : How p c
+
+finish-here : (x : ℕ) (m : Machine) (p k f : ℕ) → Runs m p (suc x) k f → size (gathered (rowOf m (suc x)) p k f) ≡ suc x
+    → Ends m p (finishFrom (suc x) m p)
+finish-here x m p k f r e =
+    let here = finishes-here x m p k f r e in
+    record {
+      steps = m .n + 1 - k;
+      equal = here ∙ sym (ended-steps x m p k f r e);
+      how = inl (ap accepted here, ap (λ c. finished (stageOf (c .machine) p)) here ∙ ended-there x m p k f r e);
+    }
+
+from-ends : (x : ℕ) (m : Machine) (p k f : ℕ) → Runs m p x k f → Ends m p (finishFrom x m p)
+from-ends zero m p k f r = absurd (nothing (going m p 0 k f r .low))
   where
-    j : ℕ
-    j = m .n + 1 - madeOf (m .n) (stageOf m p)
-
-    c : Called
-    c = stepsOf j m p
-
-    go : (a b : Bool) → accepted c ≡ a → finished (stageOf (c .machine) p) ≡ b → (k : ℕ) × (finishFrom x (c .machine) p ≡ stepsOf k (c .machine) p)
-        → (k : ℕ) × (onward c (next x p) ≡ stepsOf k m p)
-    go false b e₁ e₂ further = (j, onward-refused c (next x p) e₁)
-    go true true e₁ e₂ further = (j, onward-accepted c (next x p) e₁ ∙ next-done x p (c .machine) e₂ ∙ sym (accepted-done c e₁))
-    go true false e₁ e₂ further =
-        (j + further .0, onward-accepted c (next x p) e₁ ∙ next-on x p (c .machine) e₂ ∙ further .1 ∙ sym (steps-then j (further .0) m p e₁))
+    nothing : 1 ≤ 0 → ⊥
+    nothing h = omega arith
+from-ends (suc zero) m p k f r = go (equal-or-not (size (gathered (rowOf m 1) p k f)) 1)
+  where
+    go : (size (gathered (rowOf m 1) p k f) ≡ 1) ⊎ (size (gathered (rowOf m 1) p k f) ≢ 1) → Ends m p (finishFrom 1 m p)
+    go (inl e) = finish-here 0 m p k f r e
+    go (inr ne) =
+        record {
+          steps = m .n + 1 - k;
+          equal = sticks-here m p k f r ne;
+          how = inr (ap (λ c. c .answer) (sticks-here m p k f r ne) ∙ stuck-there m p k f r ne);
+        }
+from-ends (suc (suc x)) m p k f r =
+    go (equal-or-not (size (gathered (rowOf m (suc (suc x))) p k f)) (suc (suc x)))
+    (λ ne. from-ends (suc x) (left x m p k) p 0 0 (left-runs x m p k f r ne))
+  where
+    go : (size (gathered (rowOf m (suc (suc x))) p k f) ≡ suc (suc x)) ⊎ (size (gathered (rowOf m (suc (suc x))) p k f) ≢ suc (suc x))
+        → (size (gathered (rowOf m (suc (suc x))) p k f) ≢ suc (suc x) → Ends (left x m p k) p (finishFrom (suc x) (left x m p k) p))
+        → Ends m p (finishFrom (suc (suc x)) m p)
+    go (inl e) further = finish-here (suc x) m p k f r e
+    go (inr ne) further =
+        let rest = further ne in
+        let down = fell x m p k f r ne in
+        record {
+          steps = m .n + 1 - k + rest .steps;
+          equal =
+              goes-below x m p k f r ne ∙ rest .equal
+              ∙ sym (steps-then (m .n + 1 - k) (rest .steps) m p (ap accepted down) ∙ ap (λ c. stepsOf (rest .steps) (c .machine) p) down);
+          how = subst (How p) (sym (goes-below x m p k f r ne)) (rest .how);
+        }
 
 -- Neither 1, 2, 4, 5 nor 6 applies: a running process of a well shaped machine.
 record Alone (m : Machine) (p : ℕ) : Type 0 where
@@ -112,126 +141,202 @@ record Alone (m : Machine) (p : ℕ) : Type 0 where
 
 alone : (m : Machine) (p : ℕ) → firstThat (crashLines m p) ≡ 0 → Alone m p
 alone m p e =
-    let d = what-calls-did .crash m p (eq-eqb (numberOf (crashOf m p .answer)) 0 (table-of-numbers .crash m p ∙ e)) in
+    let d = what-calls-did .crash m p (eq-eqb (numberOf (crashOf m p .answer)) 0 (number-crash m p ∙ e)) in
     record { valid = d .0; level = d .1 .level; made = d .1 .made; found = d .1 .found; stage = d .1 .was }
 
 runs-alone : (m : Machine) (p : ℕ) (a : Alone m p) → finishOf m p ≡ orAsAtEntry m (finishFrom (a .level) m p)
 unfolding finishOf
 runs-alone m p a = goes-on m p (a .valid) (finishAt (stageOf m p) m p) ∙ ap (λ s. finishAt s m p) (a .stage)
 
-entry-number : (m : Machine) (c : Called) → orAsAtEntry m c .answer ≡ c .answer
-entry-number m c = go (accepted c)
+-- Its steps finish it, and the call is these; or one of them is refused with 7, and so is the call.
+how-alone : (m : Machine) → Held m → (p : ℕ) → firstThat (crashLines m p) ≡ 0
+    → ((s : Finishes m p) × (finishOf m p ≡ stepsOf (s .steps) m p)) ⊎ (Sticks m p × (finishOf m p .answer ≡ NoLevelBelow))
+how-alone m h p z = go (e .how)
   where
-    go : (b : Bool) → cond b c (refused (c .answer) m) .answer ≡ c .answer
-    go true = refl
-    go false = refl
-
--- an accepted call had none of those lines
-accepted-lines : (m : Machine) (p : ℕ) → accepted (finishOf m p) ≡ true → firstThat (crashLines m p) ≡ 0
-accepted-lines m p a = go (equal-or-not (firstThat (crashLines m p)) 0)
-  where
-    go : (firstThat (crashLines m p) ≡ 0) ⊎ (firstThat (crashLines m p) ≢ 0) → firstThat (crashLines m p) ≡ 0
-    go (inl e) = e
-    go (inr ne) = sym (table-of-numbers .finish m p ne) ∙ eqb-true (numberOf (finishOf m p .answer)) 0 a
-
-down-held : (d x : ℕ) (m : Machine) (p v : ℕ) → Held m → Held (filledDown d x m p v)
-unfolding filledDown
-down-held zero x m p v h = h
-down-held (suc d) x m p v h = held-register (filledDown d x m p v) (down-held d x m p v h) (x - d) p v
-
-landed-finished : (m : Machine) → Held m → (p : ℕ) → 1 ≤ p → p ≤ 32 → (top : ℕ) (l : Landing) → accepted (landed m p top l) ≡ true
-    → finished (stageOf (landed m p top l .machine) p) ≡ true
-landed-finished m h p lo hi top (Lands y w) a =
-    ap (λ Q. finished (Q .stage))
-    (process-same (filledDown (top + 1 - y) top m p (valueOf m p)) (down-held (top + 1 - y) top m p (valueOf m p) h) p lo hi
-    (record { stage = Finished y w; value = valueOf m p }))
-landed-finished m h p lo hi top Stuck a = absurd (false≢true a)
-
-landed-number : (m : Machine) (p top : ℕ) (l : Landing) → accepted (landed m p top l) ≡ false → landed m p top l .answer ≡ NotAlone
-landed-number m p top (Lands y w) a = absurd (true≢false a)
-landed-number m p top Stuck a = refl
-
-finish-accepts : (m : Machine) → Held m → (p : ℕ) → accepted (finishOf m p) ≡ true → FinishedAlone m p
-finish-accepts m h p a =
-    record {
-      ended = subst (λ c. finished (stageOf (c .machine) p) ≡ true) (sym closed)
-          (landed-finished m h p (r .valid .low) (in-range m p (r .valid)) _
-          (landing (rowOf m) p (r .level) (r .made) (r .found)) (sym (ap accepted closed) ∙ a));
-      steps = ap (λ i. stepsOf i m p) (difference _ _ (steps .0) count) ∙ sym whole;
-    }
-  where
-    r : Alone m p
-    r = alone m p (accepted-lines m p a)
-
-    closed : finishOf m p ≡ landed m p (topRow (r .level) (r .made)) (landing (rowOf m) p (r .level) (r .made) (r .found))
-    closed = runs-alone m p r ∙ alone-at m h p (r .valid) (r .level) (r .made) (r .found) (r .stage)
+    a : Alone m p
+    a = alone m p z
 
     c : Called
-    c = finishFrom (r .level) m p
+    c = finishFrom (a .level) m p
 
-    ok : accepted c ≡ true
-    ok = sym (ap (λ n. eqb (numberOf n) 0) (entry-number m c)) ∙ sym (ap accepted (runs-alone m p r)) ∙ a
+    e : Ends m p c
+    e =
+        from-ends (a .level) m p (a .made) (a .found)
+        (record {
+          meets = record { size = refl; held = h; shape = shaped-record m (a .valid .shape) };
+          low = a .valid .low;
+          high = a .valid .high;
+          stage = a .stage;
+        })
 
-    steps : (k : ℕ) × (c ≡ stepsOf k m p)
-    steps = from-steps (r .level) m p
+    go : How p c → ((s : Finishes m p) × (finishOf m p ≡ stepsOf (s .steps) m p)) ⊎ (Sticks m p × (finishOf m p .answer ≡ NoLevelBelow))
+    go (inl t) =
+        inl (
+          record {
+            steps = e .steps;
+            made = sym (ap accepted (e .equal)) ∙ t .0;
+            ended = subst (λ c. finished (stageOf (c .machine) p) ≡ true) (e .equal) (t .1);
+          },
+          runs-alone m p a ∙ cond-true (accepted c) c (refused (c .answer) m) (t .0) ∙ e .equal,
+        )
+    go (inr t) =
+        let off : accepted c ≡ false = ap (λ n. eqb (numberOf n) 0) t in
+        let first = first-refused (e .steps) m p (sym (ap accepted (e .equal)) ∙ off) in
+        inr (
+          record {
+            steps = first .steps;
+            made = first .made;
+            next = ap (λ d. numberOf (d .answer)) (sym (first .next) ∙ sym (e .equal)) ∙ ap numberOf t;
+          },
+          ap (λ d. d .answer) (runs-alone m p a) ∙ ap (λ n. cond (eqb (numberOf n) 0) c (refused n m) .answer) t,
+        )
 
-    whole : finishOf m p ≡ stepsOf (steps .0) m p
-    whole = runs-alone m p r ∙ cond-true (accepted c) c (refused (c .answer) m) ok ∙ steps .1
+-- a process that does not stick finishes
+pub finishes-unless-sticks : (m : Machine) → Held m → (p : ℕ) → none (crashLines m p) ≡ true → (Sticks m p → ⊥) → Finishes m p
+finishes-unless-sticks m h p z never = go (how-alone m h p (none-first (crashLines m p) z))
+  where
+    go : ((s : Finishes m p) × (finishOf m p ≡ stepsOf (s .steps) m p)) ⊎ (Sticks m p × (finishOf m p .answer ≡ NoLevelBelow)) → Finishes m p
+    go (inl t) = t .0
+    go (inr t) = absurd (never (t .0))
 
-    count : accessesOf (m .n) (stageOf (finishOf m p .machine) p) ≡ accessesOf (m .n) (stageOf m p) + steps .0
-    count =
-        ap (λ d. accessesOf (m .n) (stageOf (d .machine) p)) whole
-        ∙ steps-count (steps .0) (m .n) m (record { size = refl; held = h; shape = shaped-record m (r .valid .shape) }) p
-        (sym (ap accepted (steps .1)) ∙ ok)
+-- Where the accepted steps of p end.
+record Stops (m : Machine) (p a : ℕ) : Type 0 where
+  made : accepted (stepsOf a m p) ≡ true
+  next : accepted (stepOf (stepsOf a m p .machine) p) ≡ false
 
-    difference : (a b k : ℕ) → a ≡ b + k → a - b ≡ k
-    difference a b k e = omega arith
+no-later : (m : Machine) (p a b : ℕ) → Stops m p a → accepted (stepsOf b m p) ≡ true → b ≤ a
+no-later m p a b s t = go (at-most-or-above b a)
+  where
+    go : (b ≤ a) ⊎ (a < b) → b ≤ a
+    go (inl le) = le
+    go (inr lt) =
+        let sum : a + suc (b - a - 1) ≡ b = omega arith in
+        let one = steps-then a (suc (b - a - 1)) m p (s .made) ∙ steps-off (b - a - 1) (stepsOf a m p .machine) p (s .next) in
+        absurd (false≢true (sym (s .next) ∙ sym (ap accepted one) ∙ ap (λ j. accepted (stepsOf j m p)) sum ∙ t))
 
-finish-refuses : (m : Machine) → Held m → (p : ℕ) → firstThat (crashLines m p) ≡ 0 → accepted (finishOf m p) ≡ false → RefusedAlone m p
-finish-refuses m h p e a =
+one-stop : (m : Machine) (p a b : ℕ) → Stops m p a → Stops m p b → a ≡ b
+one-stop m p a b s t = omega (arith, no-later m p a b s (t .made), no-later m p b a t (s .made))
+
+-- a finished process makes no step, and its refusal is not 7
+finished-step : (m : Machine) (p : ℕ) → finished (stageOf m p) ≡ true → (accepted (stepOf m p) ≡ false) × (numberOf (stepOf m p .answer) ≢ 7)
+unfolding stepOf
+finished-step m p e = go (shaped m) (leb 1 p && leb p (m .n)) (stageOf m p) e
+  where
+    at : Bool → Bool → Stage → Called
+    at s r t = cond s (cond r (stepAt t m p) (refused NoProcess m)) (refused NotShaped m)
+
+    go : (s r : Bool) (t : Stage) → finished t ≡ true → (accepted (at s r t) ≡ false) × (numberOf (at s r t .answer) ≢ 7)
+    go false r t e = (refl, omega arith)
+    go true false t e = (refl, omega arith)
+    go true true Absent e = absurd (false≢true e)
+    go true true (Running x k f) e = absurd (false≢true e)
+    go true true (Finished x w) e = (refl, omega arith)
+    go true true (Crashed x k f) e = absurd (false≢true e)
+
+finishes-stops : (m : Machine) (p : ℕ) (s : Finishes m p) → Stops m p (s .steps)
+finishes-stops m p s = record { made = s .made; next = finished-step (stepsOf (s .steps) m p .machine) p (s .ended) .0 }
+
+sticks-stops : (m : Machine) (p : ℕ) (s : Sticks m p) → Stops m p (s .steps)
+sticks-stops m p s = record { made = s .made; next = ap (λ k. eqb k 0) (s .next) }
+
+never-both : (m : Machine) (p : ℕ) → Finishes m p → Sticks m p → ⊥
+never-both m p s t =
+    let e = one-stop m p (s .steps) (t .steps) (finishes-stops m p s) (sticks-stops m p t) in
+    finished-step (stepsOf (s .steps) m p .machine) p (s .ended) .1
+    (ap (λ k. numberOf (stepOf (stepsOf k m p .machine) p .answer)) e ∙ t .next)
+
+-- The table.
+crash-not-seven : (m : Machine) (p : ℕ) → firstThat (crashLines m p) ≢ 7
+crash-not-seven m p = go (shaped m) (leb 1 p && leb p (m .n)) (stageOf m p)
+  where
+    go : (s r : Bool) (t : Stage)
+        → firstThat (when 1 (not s) ∷ when 2 (not r) ∷ when 4 (not (entered t)) ∷ when 5 (crashed t) ∷ when 6 (finished t) ∷ []) ≢ 7
+    go false r t = omega arith
+    go true false t = omega arith
+    go true true Absent = omega arith
+    go true true (Running x k f) = omega arith
+    go true true (Finished x w) = omega arith
+    go true true (Crashed x k f) = omega arith
+
+pub exactly-alone : (m : Machine) → Held m → (p : ℕ) → ExactlyWhenAlone m p
+exactly-alone m h p =
     record {
-      steps = first .steps;
-      made = first .made;
-      next = sym (ap (λ d. d .answer) (steps .1 ∙ first .next)) ∙ sym (entry-number m c) ∙ sym (ap (λ d. d .answer) (runs-alone m p r));
-      number = ap (λ d. d .answer) closed ∙ landed-number m p _ (landing (rowOf m) p (r .level) (r .made) (r .found)) (sym (ap accepted closed) ∙ a);
-      state = refused-hands-back .finish m p a;
+      some = λ k nz n7. (some-to k nz n7 (equal-or-not lines 0), some-back k nz);
+      seven = (seven-to (equal-or-not lines 0), λ t. seven-back t (number (none-first (crashLines m p) (t .0))));
+      nothing = (nothing-to (equal-or-not lines 0), λ t. nothing-back t (number (none-first (crashLines m p) (t .0))));
     }
   where
-    r : Alone m p
-    r = alone m p e
+    lines : ℕ
+    lines = firstThat (crashLines m p)
 
-    closed : finishOf m p ≡ landed m p (topRow (r .level) (r .made)) (landing (rowOf m) p (r .level) (r .made) (r .found))
-    closed = runs-alone m p r ∙ alone-at m h p (r .valid) (r .level) (r .made) (r .found) (r .stage)
+    answered : ℕ
+    answered = numberOf (finishOf m p .answer)
 
-    c : Called
-    c = finishFrom (r .level) m p
+    -- where no line of a crash applies
+    number : lines ≡ 0 → (Finishes m p × (answered ≡ 0)) ⊎ (Sticks m p × (answered ≡ 7))
+    number z = go (how-alone m h p z)
+      where
+        go : ((s : Finishes m p) × (finishOf m p ≡ stepsOf (s .steps) m p)) ⊎ (Sticks m p × (finishOf m p .answer ≡ NoLevelBelow))
+            → (Finishes m p × (answered ≡ 0)) ⊎ (Sticks m p × (answered ≡ 7))
+        go (inl t) = inl (t .0, ap (λ c. numberOf (c .answer)) (t .1) ∙ eqb-true (numberOf (stepsOf (t .0 .steps) m p .answer)) 0 (t .0 .made))
+        go (inr t) = inr (t .0, ap numberOf (t .1))
 
-    steps : (k : ℕ) × (c ≡ stepsOf k m p)
-    steps = from-steps (r .level) m p
+    no-line : lines ≡ 0 → none (crashLines m p) ≡ true
+    no-line z = first-none (crashLines m p) refl z
 
-    off : accepted (stepsOf (steps .0) m p) ≡ false
-    off = sym (ap accepted (steps .1)) ∙ sym (ap (λ n. eqb (numberOf n) 0) (entry-number m c)) ∙ sym (ap accepted (runs-alone m p r)) ∙ a
+    some-to : (k : ℕ) → k ≢ 0 → k ≢ 7 → (lines ≡ 0) ⊎ (lines ≢ 0) → answered ≡ k → FirstLine k (crashLines m p)
+    some-to k nz n7 (inr ne) e = first-given k nz (crashLines m p) (sym (number-finish m p ne) ∙ e)
+    some-to k nz n7 (inl z) e = go (number z)
+      where
+        go : (Finishes m p × (answered ≡ 0)) ⊎ (Sticks m p × (answered ≡ 7)) → FirstLine k (crashLines m p)
+        go (inl t) = absurd (nz (sym e ∙ t .1))
+        go (inr t) = absurd (n7 (sym e ∙ t .1))
 
-    first : FirstRefused (steps .0) m p
-    first = first-refused (steps .0) m p off
+    some-back : (k : ℕ) → k ≢ 0 → FirstLine k (crashLines m p) → answered ≡ k
+    some-back k nz g =
+        let e : lines ≡ k = given-first k (crashLines m p) g in
+        number-finish m p (λ z. nz (sym e ∙ z)) ∙ e
 
-number-landed : (m : Machine) (p top : ℕ) (l : Landing) → numberOf (landed m p top l .answer) ≡ firstThat (when 7 (isStuck l) ∷ [])
-number-landed m p top (Lands y w) = refl
-number-landed m p top Stuck = refl
+    seven-to : (lines ≡ 0) ⊎ (lines ≢ 0) → answered ≡ 7 → (none (crashLines m p) ≡ true) × Sticks m p
+    seven-to (inr ne) e = absurd (crash-not-seven m p (sym (number-finish m p ne) ∙ e))
+    seven-to (inl z) e = go (number z)
+      where
+        go : (Finishes m p × (answered ≡ 0)) ⊎ (Sticks m p × (answered ≡ 7)) → (none (crashLines m p) ≡ true) × Sticks m p
+        go (inl t) = absurd (let w : ⊥ = omega (arith, e, t .1) in w)
+        go (inr t) = (no-line z, t .0)
 
-finish-number : (m : Machine) → Held m → (p : ℕ) → numberOf (finishOf m p .answer) ≡ firstThat (finishLines m p)
-unfolding aloneOf
-finish-number m h p = ap (λ c. numberOf (c .answer)) (alone-is m h p) ∙ go (shaped m) (leb 1 p && leb p (m .n)) (stageOf m p)
+    seven-back : (none (crashLines m p) ≡ true) × Sticks m p → (Finishes m p × (answered ≡ 0)) ⊎ (Sticks m p × (answered ≡ 7)) → answered ≡ 7
+    seven-back t (inl u) = absurd (never-both m p (u .0) (t .1))
+    seven-back t (inr u) = u .1
+
+    nothing-to : (lines ≡ 0) ⊎ (lines ≢ 0) → answered ≡ 0 → (none (crashLines m p) ≡ true) × Finishes m p
+    nothing-to (inr ne) e = absurd (ne (sym (number-finish m p ne) ∙ e))
+    nothing-to (inl z) e = go (number z)
+      where
+        go : (Finishes m p × (answered ≡ 0)) ⊎ (Sticks m p × (answered ≡ 7)) → (none (crashLines m p) ≡ true) × Finishes m p
+        go (inl t) = (no-line z, t .0)
+        go (inr t) = absurd (let w : ⊥ = omega (arith, e, t .1) in w)
+
+    nothing-back : (none (crashLines m p) ≡ true) × Finishes m p → (Finishes m p × (answered ≡ 0)) ⊎ (Sticks m p × (answered ≡ 7)) → answered ≡ 0
+    nothing-back t (inl u) = u .1
+    nothing-back t (inr u) = absurd (never-both m p (t .1) (u .0))
+
+-- Rule 8.
+equals : (m : Machine) → Held m → (p : ℕ) → accepted (finishOf m p) ≡ true → (s : Finishes m p) → finishOf m p ≡ stepsOf (s .steps) m p
+equals m h p a s = go (how-alone m h p (none-first (crashLines m p) (exactly-alone m h p .nothing .0 (eqb-true (numberOf (finishOf m p .answer)) 0 a) .0)))
   where
-    go : (s r : Bool) (t : Stage) → numberOf (cond s (cond r (aloneAt t m p) (refused NoProcess m)) (refused NotShaped m) .answer)
-        ≡ firstThat (when 1 (not s) ∷ when 2 (not r) ∷ when 4 (not (entered t)) ∷ when 5 (crashed t) ∷ when 6 (finished t)
-        ∷ when 7 (isStuck (landing (rowOf m) p (levelOf t) (madeOf (m .n) t) (foundOf t))) ∷ [])
-    go false r t = refl
-    go true false t = refl
-    go true true Absent = refl
-    go true true (Running x k f) = number-landed m p (topRow x k) (landing (rowOf m) p x k f)
-    go true true (Finished x w) = refl
-    go true true (Crashed x k f) = refl
+    go : ((s : Finishes m p) × (finishOf m p ≡ stepsOf (s .steps) m p)) ⊎ (Sticks m p × (finishOf m p .answer ≡ NoLevelBelow))
+        → finishOf m p ≡ stepsOf (s .steps) m p
+    go (inl t) =
+        t .1 ∙ ap (λ k. stepsOf k m p) (one-stop m p (t .0 .steps) (s .steps) (finishes-stops m p (t .0)) (finishes-stops m p s))
+    go (inr t) = absurd (never-both m p s (t .0))
+
+counts : (m : Machine) → Held m → (p : ℕ) → accepted (finishOf m p) ≡ true → (s : Finishes m p)
+    → accessesOf (m .n) (stageOf (finishOf m p .machine) p) ≡ accessesOf (m .n) (stageOf m p) + s .steps
+counts m h p a s =
+    let z = none-first (crashLines m p) (exactly-alone m h p .nothing .0 (eqb-true (numberOf (finishOf m p .answer)) 0 a) .0) in
+    ap (λ c. accessesOf (m .n) (stageOf (c .machine) p)) (equals m h p a s)
+    ∙ steps-count (s .steps) (m .n) m (record { size = refl; held = h; shape = shaped-record m (alone m p z .valid .shape) }) p (s .made)
 
 pub finishing-alone : FinishingAlone
-finishing-alone = record { number = finish-number; accepts = finish-accepts; refuses = finish-refuses; closed = alone-is }
+finishing-alone = record { equals = equals; count = counts }

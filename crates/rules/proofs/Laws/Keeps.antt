@@ -5,7 +5,7 @@ use mathlib.Core.Bool.{Bool, true, false, _&&_, cond, true≢false}
 use Prim.Native.Nat.{ℕ, zero, suc, _+_, _-_, _*_, _^_, _≤_, _<_}
 use native.Mathlib.Omega.{arith}
 use lib.Dec.{leb, lit<}
-use lib.ListN.{getD, replicate, length-set, length-replicate}
+use lib.ListN.{getD, length-set, length-replicate}
 use borrow.Author.Tests.{lt-leb, le-leb}
 use Rattle.sets.specs.Sets.{has, plus, size}
 use Rattle.sets.proofs.Laws.{has-zero, has-plus-same, has-plus-other, has-plus-cases, plus-below}
@@ -20,20 +20,16 @@ use Rattle.rules.specs.State.{withStage, withRegister}
 use Rattle.rules.specs.Shape.{Held, Going, Ended, ShapedStage, ShapedProcess, ShapedRegister, Shaped, shaped}
 use Rattle.rules.specs.Calls.{fresh, done, refused, reading, write, accepted, enterOf, stepOf, crashOf, stepsOf, finishFrom, finishAt}
 use Rattle.rules.specs.Calls.{finishOf}
-use Rattle.rules.specs.Statements.{Valid, Meets, DidEnter, DidCrash, DidStep, did-write, did-read, did-finish, did-fall, EveryStateMeets}
-use Rattle.rules.proofs.Laws.Small.{not-both, equal-or-not, at-most-or-above, stored-all}
+use Rattle.rules.specs.Statements.{Valid, Meets, EveryStateMeets}
+use Rattle.rules.proofs.Laws.Small.{not-both, equal-or-not, at-most-or-above, stored-all, blank}
 use Rattle.rules.proofs.Laws.Stores.{process-same, process-other, row-same, row-other, cell-same, cell-other}
 use Rattle.rules.proofs.Laws.Shape.{shaped-record, absent-wrote}
 use Rattle.rules.proofs.Laws.Wrote.{lowestRow, wrote-lowest, wrote-alike}
+use Rattle.rules.proofs.Laws.Did.{DidEnter, DidCrash, DidStep, did-write, did-read, did-finish, did-fall}
 use Rattle.rules.proofs.Laws.Did.{some, running, what-calls-did}
 use Rattle.rules.proofs.Laws.Refused.{refused-hands-back}
 
 -- A fresh machine.
-blank {ℓ} : {A : Type ℓ} (n i : ℕ) (a : A) → getD (replicate n a) i a ≡ a
-blank zero i a = refl
-blank (suc n) zero a = refl
-blank (suc n) (suc i) a = blank n i a
-
 pub held-fresh : (n : ℕ) → Held (fresh n)
 held-fresh n =
     record {

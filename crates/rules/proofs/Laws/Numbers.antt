@@ -1,4 +1,4 @@
--- Document 01's table of numbers: each call answers with the first of its lines that applies.
+-- Document 01's table of numbers: what the first line that applies is, and that each call answers with it.
 use mathlib.Core.Path.{_≡_, refl, sym, ap, subst, _∙_}
 use mathlib.Core.Logic.{_⊎_, inl, inr, _≢_}
 use mathlib.Core.Bool.{Bool, true, false, not, _&&_, cond, false≢true}
@@ -11,19 +11,20 @@ use Rattle.sets.specs.Sets.{size}
 use Rattle.rules.specs.declared.Stage.{Stage}
 use Rattle.rules.specs.declared.Stage.the-variants.{Absent, Running, Finished, Crashed}
 use Rattle.rules.specs.declared.Machine.{Machine}
-use Rattle.rules.specs.declared.Answer.the-variants.{NotShaped, NoProcess, NotAlone, OutOfRange}
+use Rattle.rules.specs.declared.Answer.{Answer}
+use Rattle.rules.specs.declared.Answer.the-variants.{NotShaped, NoProcess, NoLevelBelow, OutOfRange}
 use Rattle.rules.specs.State.{stageOf, rowOf, entered, finished, crashed}
 use Rattle.rules.specs.Shape.{Going, shaped}
 use Rattle.rules.specs.Calls.{numberOf, done, refused, fresh, newOf, enterAt, enterOf, crashAt, crashOf, reading, settle, access, stepAt}
 use Rattle.rules.specs.Calls.{stepOf, finishAt, finishOf, looked, unseen, lookOf}
 use Rattle.sets.specs.Lines.{Line, when, firstThat}
-use Rattle.rules.specs.Numbers.{lastOfMany, always, enterLines, crashLines, stepLines}
-use Rattle.rules.specs.Statements.{none, numbered, Given, FirstIsGiven, below, ascending, LinesAscend, TableOfNumbers}
+use Rattle.rules.specs.Numbers.{lastOfMany, always, enterLines, crashLines, stepLines, newLines}
+use Rattle.rules.specs.Statements.{none, FirstLine, ExactlyWhen, below, ascending, LinesAscend}
 use Rattle.rules.proofs.Laws.Small.{both, and-first, and-second, not-both, equal-or-not}
 use Rattle.rules.proofs.Laws.Did.{running, access-write, access-read, access-last, settle-finish, settle-fall, settle-stick}
 
--- The law of the table.
-later : (k : ℕ) (l : Line) (ls : List Line) → l .applies ≡ false → Given k ls → Given k (l ∷ ls)
+-- The first line that applies.
+later : (k : ℕ) (l : Line) (ls : List Line) → l .applies ≡ false → FirstLine k ls → FirstLine k (l ∷ ls)
 later k l ls no-line g =
     record {
       before = l ∷ g .before;
@@ -35,12 +36,12 @@ later k l ls no-line g =
       earlier = both (not (l .applies)) (none (g .before)) (ap not no-line) (g .earlier);
     }
 
-first-given : (k : ℕ) → k ≢ 0 → (ls : List Line) → firstThat ls ≡ k → Given k ls
+pub first-given : (k : ℕ) → k ≢ 0 → (ls : List Line) → firstThat ls ≡ k → FirstLine k ls
 first-given k ne [] e = absurd (ne (sym e))
 first-given k ne (l ∷ ls) e = go (l .applies) refl (first-given k ne ls) e
   where
-    go : (b : Bool) → l .applies ≡ b → (firstThat ls ≡ k → Given k ls) → cond b (l .number) (firstThat ls) ≡ k
-        → Given k (l ∷ ls)
+    go : (b : Bool) → l .applies ≡ b → (firstThat ls ≡ k → FirstLine k ls) → cond b (l .number) (firstThat ls) ≡ k
+        → FirstLine k (l ∷ ls)
     go true a rest q = record { before = []; line = l; after = ls; all = refl; number = q; applies = a; earlier = refl }
     go false a rest q = later k l ls a (rest q)
 
@@ -53,14 +54,14 @@ skip (l ∷ before) ls n = go (l .applies) refl (skip before ls (and-second (not
     go true a rest = absurd (false≢true (sym (ap not a) ∙ and-first (not (l .applies)) (none before) n))
     go false a rest = rest
 
-given-first : (k : ℕ) (ls : List Line) → Given k ls → firstThat ls ≡ k
+pub given-first : (k : ℕ) (ls : List Line) → FirstLine k ls → firstThat ls ≡ k
 given-first k ls g = ap firstThat (g .all) ∙ skip (g .before) (g .line ∷ g .after) (g .earlier) ∙ here (g .line .applies) (g .applies)
   where
     here : (b : Bool) → b ≡ true → cond b (g .line .number) (firstThat (g .after)) ≡ k
     here true e = g .number
     here false e = absurd (false≢true e)
 
-none-first : (ls : List Line) → none ls ≡ true → firstThat ls ≡ 0
+pub none-first : (ls : List Line) → none ls ≡ true → firstThat ls ≡ 0
 none-first [] n = refl
 none-first (l ∷ ls) n = go (l .applies) (and-first (not (l .applies)) (none ls) n) (none-first ls (and-second (not (l .applies)) (none ls) n))
   where
@@ -68,7 +69,12 @@ none-first (l ∷ ls) n = go (l .applies) (and-first (not (l .applies)) (none ls
     go true a rest = absurd (false≢true a)
     go false a rest = rest
 
-first-none : (ls : List Line) → numbered ls ≡ true → firstThat ls ≡ 0 → none ls ≡ true
+-- no line has the number 0
+abbrev numbered : List Line → Bool
+numbered [] = true
+numbered (l ∷ ls) = not (eqb (l .number) 0) && numbered ls
+
+pub first-none : (ls : List Line) → numbered ls ≡ true → firstThat ls ≡ 0 → none ls ≡ true
 first-none [] w e = refl
 first-none (l ∷ ls) w e = go (l .applies) (first-none ls (and-second (not (eqb (l .number) 0)) (numbered ls) w)) e
   where
@@ -77,11 +83,11 @@ first-none (l ∷ ls) w e = go (l .applies) (first-none ls (and-second (not (eqb
     go true rest q = absurd (false≢true (sym (ap not (eq-eqb (l .number) 0 q)) ∙ and-first (not (eqb (l .number) 0)) (numbered ls) w))
     go false rest q = rest q
 
-pub first-is-given : FirstIsGiven
-first-is-given =
+pub exactly-when : (a : Answer) (ls : List Line) → numbered ls ≡ true → numberOf a ≡ firstThat ls → ExactlyWhen a ls
+exactly-when a ls w e =
     record {
-      some = λ k ne ls. (first-given k ne ls, given-first k ls);
-      nothing = λ ls w. (first-none ls w, none-first ls);
+      some = λ k ne. (λ q. first-given k ne ls (sym e ∙ q), λ g. e ∙ given-first k ls g);
+      nothing = (λ q. first-none ls w (sym e ∙ q), λ n. e ∙ none-first ls n);
     }
 
 below-all : (k : ℕ) (ls : List Line) → below k ls ≡ true → (l : Line) → List·Memᴰ l ls → k < l .number
@@ -105,13 +111,12 @@ lines-ascend =
       enter = λ m p. refl;
       step = λ m p. refl;
       crash = λ m p. refl;
-      finish = λ m p. refl;
       look = λ m p. refl;
-      lowest-applies = lowest-applies;
+      lowest = λ k ls up g l h a. subst (λ j. j ≤ l .number) (given-first k ls g) (lowest-applies ls up l h a);
     }
 
 -- Each call.
-number-enter : (m : Machine) (p v : ℕ) → numberOf (enterOf m p v .answer) ≡ firstThat (enterLines m p)
+pub number-enter : (m : Machine) (p v : ℕ) → numberOf (enterOf m p v .answer) ≡ firstThat (enterLines m p)
 unfolding enterOf
 number-enter m p v = go (shaped m) (leb 1 p && leb p (m .n)) (stageOf m p)
   where
@@ -124,7 +129,7 @@ number-enter m p v = go (shaped m) (leb 1 p && leb p (m .n)) (stageOf m p)
     go true true (Finished x w) = refl
     go true true (Crashed x k f) = refl
 
-number-crash : (m : Machine) (p : ℕ) → numberOf (crashOf m p .answer) ≡ firstThat (crashLines m p)
+pub number-crash : (m : Machine) (p : ℕ) → numberOf (crashOf m p .answer) ≡ firstThat (crashLines m p)
 unfolding crashOf
 number-crash m p = go (shaped m) (leb 1 p && leb p (m .n)) (stageOf m p)
   where
@@ -137,7 +142,7 @@ number-crash m p = go (shaped m) (leb 1 p && leb p (m .n)) (stageOf m p)
     go true true (Finished x w) = refl
     go true true (Crashed x k f) = refl
 
-number-finish : (m : Machine) (p : ℕ) → firstThat (crashLines m p) ≢ 0 → numberOf (finishOf m p .answer) ≡ firstThat (crashLines m p)
+pub number-finish : (m : Machine) (p : ℕ) → firstThat (crashLines m p) ≢ 0 → numberOf (finishOf m p .answer) ≡ firstThat (crashLines m p)
 unfolding finishOf
 number-finish m p = go (shaped m) (leb 1 p && leb p (m .n)) (stageOf m p)
   where
@@ -204,11 +209,11 @@ number-access m p x k f g some = go (equal-or-not k 0) (equal-or-not k (m .n)) (
     go (inr nz) (inl q) (inr s) (inl o) =
         let many : size (reading (rowOf m x) k f) ≢ 1 = λ e. s (e ∙ sym o) in
         ap (λ c. numberOf (c .answer))
-        (last q ∙ subst (λ y. settle m p y (reading (rowOf m x) k f) ≡ refused NotAlone m) (sym o) (settle-stick m p (reading (rowOf m x) k f) many))
+        (last q ∙ subst (λ y. settle m p y (reading (rowOf m x) k f) ≡ refused NoLevelBelow m) (sym o) (settle-stick m p (reading (rowOf m x) k f) many))
         ∙ sym (seven w true (both (eqb x 1 && eqb k (m .n)) _ (both (eqb x 1) _ (eq-eqb x 1 o) (eq-eqb k (m .n) q))
         (ap not (ne-eqb (size (reading (rowOf m x) k f)) 1 many))))
 
-number-step : (m : Machine) (p : ℕ) → numberOf (stepOf m p .answer) ≡ firstThat (stepLines m p)
+pub number-step : (m : Machine) (p : ℕ) → numberOf (stepOf m p .answer) ≡ firstThat (stepLines m p)
 unfolding stepOf
 number-step m p = go (shaped m) (leb 1 p && leb p (m .n)) (stageOf m p) refl refl refl
   where
@@ -226,7 +231,7 @@ number-step m p = go (shaped m) (leb 1 p && leb p (m .n)) (stageOf m p) refl ref
     go true true (Finished x w) e₁ e₂ e₃ = refl
     go true true (Crashed x k f) e₁ e₂ e₃ = refl
 
-number-look : (m : Machine) (p : ℕ) → numberOf (lookOf m p .answer) ≡ firstThat (always m p)
+pub number-look : (m : Machine) (p : ℕ) → numberOf (lookOf m p .answer) ≡ firstThat (always m p)
 unfolding lookOf
 number-look m p = go (shaped m) (leb 1 p && leb p (m .n))
   where
@@ -237,14 +242,10 @@ number-look m p = go (shaped m) (leb 1 p && leb p (m .n))
     go true false = refl
     go false r = refl
 
-number-new : (n : ℕ) → numberOf (newOf n .answer) ≡ firstThat (when 8 (not (leb 1 n && leb n 32)) ∷ [])
+pub number-new : (n : ℕ) → numberOf (newOf n .answer) ≡ firstThat (newLines n)
 unfolding newOf
 number-new n = go (leb 1 n && leb n 32)
   where
     go : (b : Bool) → numberOf (cond b (done (fresh n)) (refused OutOfRange (fresh 1)) .answer) ≡ firstThat (when 8 (not b) ∷ [])
     go true = refl
     go false = refl
-
-pub table-of-numbers : TableOfNumbers
-table-of-numbers =
-    record { enter = number-enter; step = number-step; crash = number-crash; finish = number-finish; look = number-look; new = number-new }

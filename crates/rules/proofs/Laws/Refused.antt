@@ -8,14 +8,15 @@ use Rattle.sets.specs.Sets.{size}
 use Rattle.rules.specs.declared.Stage.{Stage}
 use Rattle.rules.specs.declared.Stage.the-variants.{Absent, Running, Finished, Crashed}
 use Rattle.rules.specs.declared.Machine.{Machine}
-use Rattle.rules.specs.declared.Answer.the-variants.{NotShaped, NoProcess, NotAlone, OutOfRange}
+use Rattle.rules.specs.declared.Answer.the-variants.{NotShaped, NoProcess, NoLevelBelow, OutOfRange}
 use Rattle.rules.specs.declared.Called.{Called}
+use Rattle.rules.specs.declared.Standing.{Standing}
 use Rattle.rules.specs.declared.Sight.{Sight}
 use Rattle.rules.specs.State.{stageOf, rowOf, withStage}
 use Rattle.rules.specs.Shape.{shaped}
 use Rattle.rules.specs.Calls.{numberOf, accepted, done, refused, fresh, newOf, tested, enterAt, enterOf, crashAt, crashOf, reading}
 use Rattle.rules.specs.Calls.{write, settle, access, stepAt, stepOf, finishFrom, orAsAtEntry, finishAt, finishOf, looked, unseen, lookOf}
-use Rattle.rules.specs.Statements.{absentSight, RefusedHandsBack}
+use Rattle.rules.specs.Statements.{noView, RefusedHandsBack}
 
 -- what a call leaves of m if it is refused
 abbrev HandsBack : Machine → Called → Type 0
@@ -46,7 +47,7 @@ unfolding settle
 hands-settle m p x f = go (eqb (size f) x) (eqb x 1)
   where
     go : (s o : Bool)
-        → HandsBack m (cond s (done (withStage m p (Finished x f))) (cond o (refused NotAlone m) (done (withStage m p (Running (x - 1) 0 0)))))
+        → HandsBack m (cond s (done (withStage m p (Finished x f))) (cond o (refused NoLevelBelow m) (done (withStage m p (Running (x - 1) 0 0)))))
     go true o a = absurd (true≢false a)
     go false true a = refl
     go false false a = absurd (true≢false a)
@@ -106,14 +107,14 @@ new-back n = go (leb 1 n && leb n 32)
     go true a = absurd (true≢false a)
     go false a = refl
 
-look-back : (m : Machine) (p : ℕ) → numberOf (lookOf m p .answer) ≢ 0 → lookOf m p ≡ absentSight (lookOf m p .answer)
+look-back : (m : Machine) (p : ℕ) → numberOf (lookOf m p .answer) ≢ 0 → lookOf m p ≡ noView (lookOf m p .answer) Standing.Absent 0 0
 unfolding lookOf
 look-back m p = go (shaped m) (leb 1 p && leb p (m .n))
   where
     at : Bool → Bool → Sight
     at s r = cond s (cond r (looked m (stageOf m p)) (unseen NoProcess)) (unseen NotShaped)
 
-    go : (s r : Bool) → numberOf (at s r .answer) ≢ 0 → at s r ≡ absentSight (at s r .answer)
+    go : (s r : Bool) → numberOf (at s r .answer) ≢ 0 → at s r ≡ noView (at s r .answer) Standing.Absent 0 0
     go true true ne = absurd (ne refl)
     go true false ne = refl
     go false r ne = refl

@@ -5,7 +5,7 @@ use mathlib.Core.Bool.{Bool, true, false, _&&_, _||_, cond, false≢true, true�
 use mathlib.Core.List.{List, [], _∷_}
 use Prim.Native.Nat.{ℕ, zero, suc, _≤_, _<_}
 use lib.Dec.{leb, eqb}
-use lib.ListN.{getD, set}
+use lib.ListN.{getD, set, replicate}
 use borrow.Author.Tests.{eqb-true, eqb-false, leb-true, leb-false}
 
 pub and-first : (a b : Bool) → (a && b) ≡ true → a ≡ true
@@ -70,3 +70,9 @@ stored-all Q (x ∷ xs) zero a d q h zero = q
 stored-all Q (x ∷ xs) zero a d q h (suc j) = h (suc j)
 stored-all Q (x ∷ xs) (suc i) a d q h zero = h zero
 stored-all Q (x ∷ xs) (suc i) a d q h (suc j) = stored-all Q xs i a d q (λ k. h (suc k)) j
+
+-- a list of one value
+pub blank {ℓ} : {A : Type ℓ} (n i : ℕ) (a : A) → getD (replicate n a) i a ≡ a
+blank zero i a = refl
+blank (suc n) zero a = refl
+blank (suc n) (suc i) a = blank n i a

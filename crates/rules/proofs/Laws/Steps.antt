@@ -7,10 +7,10 @@ use lib.Dec.{eqb}
 use Rattle.rules.specs.declared.Machine.{Machine}
 use Rattle.rules.specs.declared.Answer.{Answer}
 use Rattle.rules.specs.declared.Answer.the-variants.{Done, NotShaped, NoProcess, EnteredBefore, NeverEntered, HasCrashed, HasFinished}
-use Rattle.rules.specs.declared.Answer.the-variants.{NotAlone, OutOfRange}
+use Rattle.rules.specs.declared.Answer.the-variants.{NoLevelBelow, OutOfRange}
 use Rattle.rules.specs.declared.Called.{Called}
 use Rattle.rules.specs.State.{stageOf, finished}
-use Rattle.rules.specs.Calls.{numberOf, accepted, done, stepOf, onward, stepsOf, finishFrom}
+use Rattle.rules.specs.Calls.{numberOf, accepted, done, stepOf, ifAccepted, stepsOf, finishFrom}
 
 -- An accepted call answers `Done`.
 done-answer : (a : Answer) → eqb (numberOf a) 0 ≡ true → a ≡ Done
@@ -21,25 +21,25 @@ done-answer EnteredBefore e = absurd (false≢true e)
 done-answer NeverEntered e = absurd (false≢true e)
 done-answer HasCrashed e = absurd (false≢true e)
 done-answer HasFinished e = absurd (false≢true e)
-done-answer NotAlone e = absurd (false≢true e)
+done-answer NoLevelBelow e = absurd (false≢true e)
 done-answer OutOfRange e = absurd (false≢true e)
 
 pub accepted-done : (c : Called) → accepted c ≡ true → c ≡ done (c .machine)
 accepted-done c e = ap (λ a. record { answer = a; machine = c .machine }) (done-answer (c .answer) e)
 
-pub onward-accepted : (c : Called) (f : Machine → Called) → accepted c ≡ true → onward c f ≡ f (c .machine)
-onward-accepted c f e = ap (λ b. elim b as (λ _. Called) [ true ↦ f (c .machine) | false ↦ c ]) e
+pub then-accepted : (c : Called) (f : Machine → Called) → accepted c ≡ true → ifAccepted c f ≡ f (c .machine)
+then-accepted c f e = ap (λ b. elim b as (λ _. Called) [ true ↦ f (c .machine) | false ↦ c ]) e
 
-pub onward-refused : (c : Called) (f : Machine → Called) → accepted c ≡ false → onward c f ≡ c
-onward-refused c f e = ap (λ b. elim b as (λ _. Called) [ true ↦ f (c .machine) | false ↦ c ]) e
+pub then-refused : (c : Called) (f : Machine → Called) → accepted c ≡ false → ifAccepted c f ≡ c
+then-refused c f e = ap (λ b. elim b as (λ _. Called) [ true ↦ f (c .machine) | false ↦ c ]) e
 
 pub steps-on : (k : ℕ) (m : Machine) (p : ℕ) → accepted (stepOf m p) ≡ true → stepsOf (suc k) m p ≡ stepsOf k (stepOf m p .machine) p
 unfolding stepsOf
-steps-on k m p e = onward-accepted (stepOf m p) (λ after. stepsOf k after p) e
+steps-on k m p e = then-accepted (stepOf m p) (λ after. stepsOf k after p) e
 
 pub steps-off : (k : ℕ) (m : Machine) (p : ℕ) → accepted (stepOf m p) ≡ false → stepsOf (suc k) m p ≡ stepOf m p
 unfolding stepsOf
-steps-off k m p e = onward-refused (stepOf m p) (λ after. stepsOf k after p) e
+steps-off k m p e = then-refused (stepOf m p) (λ after. stepsOf k after p) e
 
 -- j steps and then k, if the first are accepted
 pub steps-then : (j k : ℕ) (m : Machine) (p : ℕ) → accepted (stepsOf j m p) ≡ true → stepsOf (j + k) m p ≡ stepsOf k (stepsOf j m p .machine) p
@@ -61,7 +61,7 @@ steps-then (suc j) k m p a = go (accepted (stepOf m p)) refl (steps-then j k (st
 
 pub steps-first : (k : ℕ) (m m′ : Machine) (p : ℕ) → stepOf m p ≡ done m′ → stepsOf (suc k) m p ≡ stepsOf k m′ p
 unfolding stepsOf
-steps-first k m m′ p e = ap (λ c. onward c (λ after. stepsOf k after p)) e
+steps-first k m m′ p e = ap (λ c. ifAccepted c (λ after. stepsOf k after p)) e
 
 pub steps-one : (m : Machine) (p : ℕ) → stepsOf 1 m p ≡ stepOf m p
 unfolding stepsOf

@@ -13,7 +13,8 @@ use Rattle.rules.specs.State.{stageOf}
 use Rattle.rules.specs.Calls.{blindly}
 use Rattle.rules.specs.Statements.{Valid}
 use Rattle.moves.proofs.Laws.{asked-valid, standing, at-most-32}
-use Rattle.sight.proofs.Looks.{refused-look, look-shows, looked-blindly}
+use Rattle.rules.proofs.Laws.Looks.{look-shows}
+use Rattle.sight.proofs.Looks.{refused-look, looked-blindly}
 use borrow.Author.Needs.{needs}
 use Rattle.sight.proofs.look.Statement.{statement}
 use Rattle.sight.proofs.look.Tie as tie

@@ -1,21 +1,19 @@
--- Finishing alone without its steps: where rule 8's recursion ends and what it leaves. The code computes this; `alone-is` of proofs/Laws/Alone says
--- that it is `finishOf`, whose definition makes the single steps.
-use mathlib.Core.Bool.{Bool, true, false, _&&_, _||_, cond}
-use mathlib.Core.List.{List, [], _∷_, _++_}
+-- Finishing alone without its steps: where rule 8's recursion ends and what it leaves. The code computes this.
+use mathlib.Core.Path.{_≡_}
+use mathlib.Core.Bool.{true, false, _&&_, _||_, cond}
 use Prim.Native.Nat.{ℕ, zero, suc, _+_, _-_}
 use lib.Dec.{leb, eqb}
 use Rattle.sets.specs.Sets.{has, plus, size, setOf}
 use Rattle.rules.specs.declared.Stage.{Stage}
 use Rattle.rules.specs.declared.Stage.the-variants.{Absent, Running, Finished, Crashed}
 use Rattle.rules.specs.declared.Machine.{Machine}
-use Rattle.rules.specs.declared.Answer.the-variants.{NeverEntered, HasCrashed, HasFinished, NotAlone}
+use Rattle.rules.specs.declared.Answer.the-variants.{NeverEntered, HasCrashed, HasFinished, NoLevelBelow}
 use Rattle.rules.specs.declared.Called.{Called}
 use Rattle.rules.specs.declared.Landing.{Landing}
 use Rattle.rules.specs.declared.Landing.the-variants.{Lands, Stuck}
-use Rattle.rules.specs.State.{stageOf, valueOf, rowOf, levelOf, madeOf, foundOf, withProcess, withRegister}
-use Rattle.rules.specs.Calls.{done, refused, tested}
-use Rattle.sets.specs.Lines.{Line, when}
-use Rattle.rules.specs.Numbers.{crashLines}
+use Rattle.rules.specs.State.{stageOf, valueOf, rowOf, withProcess, withRegister}
+use Rattle.rules.specs.Shape.{Held}
+use Rattle.rules.specs.Calls.{done, refused, tested, finishOf}
 
 -- What process p finds in a row by its last read there, nobody else moving: with no access made it writes and reads the whole row; after k accesses
 -- it has found f, and reads the registers from k on.
@@ -41,7 +39,7 @@ topRow x k = cond (eqb k 0) x (x - 1)
 abbrev pub landed : Machine → ℕ → ℕ → Landing → Called
 landed m p top (Lands y w) =
     done (withProcess (filledDown (top + 1 - y) top m p (valueOf m p)) p (record { stage = Finished y w; value = valueOf m p }))
-landed m p top Stuck = refused NotAlone m
+landed m p top Stuck = refused NoLevelBelow m
 
 abbrev pub aloneAt : Stage → Machine → ℕ → Called
 aloneAt Absent m p = refused NeverEntered m
@@ -52,11 +50,6 @@ aloneAt (Crashed x k f) m p = refused HasCrashed m
 unfoldable pub aloneOf : Machine → ℕ → Called
 aloneOf m p = tested m p (aloneAt (stageOf m p) m p)
 
--- "step at level 1 whose last read gives a count other than 1": the last line of the table for finishing alone
-abbrev pub isStuck : Landing → Bool
-isStuck (Lands y w) = false
-isStuck Stuck = true
-
-abbrev pub finishLines : Machine → ℕ → List Line
-finishLines m p =
-    crashLines m p ++ when 7 (isStuck (landing (rowOf m) p (levelOf (stageOf m p)) (madeOf (m .n) (stageOf m p)) (foundOf (stageOf m p)))) ∷ []
+-- It is `finishOf`, whose definition makes the single steps, of every state that the declared types hold.
+abbrev pub AloneIsFinishing : Type 0
+AloneIsFinishing = (m : Machine) → Held m → (p : ℕ) → finishOf m p ≡ aloneOf m p

@@ -1,0 +1,3 @@
+-- What the code computes on its way; a reader of the claim need not read it.
+pub mod Asked
+pub mod Moves
