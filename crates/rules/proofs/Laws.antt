@@ -15,3 +15,4 @@ pub mod Finishing
 pub mod Looks
 pub mod Bare
 pub mod Examples
+pub mod Shapes

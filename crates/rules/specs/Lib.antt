@@ -6,3 +6,4 @@ pub mod Numbers
 pub mod Alone
 pub mod Statements
 pub mod Examples
+pub mod Shapes
