@@ -1,4 +1,4 @@
--- Both sides of every clause of the shape, computed of the definitions; and what the calls answer to a state that is well shaped or is not.
+-- What the calls answer to a state that is well shaped or is not; so, with what Clauses computes, that every clause of the shape is tested.
 use mathlib.Core.Path.{_≡_, refl, sym, ap, subst, _∙_}
 use mathlib.Core.Logic.{_⊎_, inl, inr, _≢_}
 use mathlib.Core.Bool.{Bool, true, false, not, _&&_, cond}
@@ -8,23 +8,24 @@ use native.Mathlib.Omega.{arith}
 use lib.Dec.{leb, ltb, eqb, lit≤}
 use lib.ListN.{length, getD, drop}
 use borrow.Author.Tests.{ltb-true, eqb-true, eq-eqb, not-true, lt-leb}
-use Rattle.sets.specs.Sets.{known, has, plus, first, every, within, count, size, same}
+use Rattle.sets.specs.Sets.{known, has, every, size, same}
 use Rattle.sets.proofs.Laws.{every-true, true-every, known-true, has-zero}
 use Rattle.rules.specs.declared.Stage.{Stage}
 use Rattle.rules.specs.declared.Stage.the-variants.{Absent, Running, Finished, Crashed}
-use Rattle.rules.specs.declared.Process.{Process}
 use Rattle.rules.specs.declared.Machine.{Machine}
 use Rattle.rules.specs.declared.Answer.{Answer}
 use Rattle.rules.specs.declared.Answer.the-variants.{NotShaped, NoProcess, NotAlone}
 use Rattle.rules.specs.declared.Called.{Called}
 use Rattle.rules.specs.declared.Sight.{Sight}
 use Rattle.rules.specs.State.{nobody, stageOf, valueOf, rowOf, cellOf, finished, foundOf, madeOf, wrote}
-use Rattle.rules.specs.Shape.{Held, shapedProcess, shapedRegister, shapedRecords, shaped}
+use Rattle.rules.specs.Shape.{Held, shapedRegister, shaped}
 use Rattle.rules.specs.Calls.{numberOf, accepted, done, refused, fresh, tested, enterAt, enterOf, crashAt, crashOf, settle, access, stepAt}
 use Rattle.rules.specs.Calls.{stepOf, onward, stepsOf, finishFrom, finishAt, finishOf, looked, unseen, lookOf}
 use Rattle.rules.specs.Statements.{Meets}
 use Rattle.rules.specs.Shapes.{BothSides, nIsInRange, clausesOfTwo, everyClause, EveryNumber, EveryClauseTested}
 use Rattle.rules.proofs.Laws.Small.{and-first, and-second, both, not-both, cond-true, cond-false, at-most-or-above, is-false}
+use Rattle.rules.proofs.Clauses.{outside, all, records, rows, few, seems, isZero, blank, surely, word, foundWord, lengths, fits, passes}
+use Rattle.rules.proofs.Clauses.{Passing, each-clause}
 use Rattle.rules.proofs.Laws.Shape.{shaped-record, record-shaped}
 use Rattle.rules.proofs.Laws.Keeps.{held-fresh, meets-fresh, every-state-meets, keep-steps}
 
@@ -151,11 +152,7 @@ shaped-not-1 n m M =
         not-1 (cond (shaped m) l (unseen NotShaped) .answer)
         (ap (λ k. eqb (numberOf (k .answer)) 1) (cond-true (shaped m) l (unseen NotShaped) s) ∙ h)
 
--- A test that every element of a list passes.
-abbrev all {ℓ} : {A : Type ℓ} → (A → Bool) → List A → Bool
-all f [] = true
-all f (a ∷ rest) = f a && all f rest
-
+-- What an element of a list passes that every element passes.
 all-from {ℓ} : {A : Type ℓ} (f : A → Bool) (d : A) → f d ≡ true → (k : ℕ) (l : List A) → all f (drop k l) ≡ true → (j : ℕ) → k ≤ j
     → f (getD l j d) ≡ true
 all-from f d h zero [] e j le = h
@@ -170,18 +167,6 @@ all-mem f (b ∷ l) e a (List·Memᴰ·head q) = ap f q ∙ and-first (f b) (all
 all-mem f (b ∷ l) e a (List·Memᴰ·tail h) = all-mem f l (and-second (f b) (all f l) e) a h
 
 -- That a state is not well shaped is seen in a record, or in a register of a few rows.
-abbrev records : Machine → Bool
-records m = leb 1 (m .n) && leb (m .n) 32 && shapedRecords (m .n) (m .filled) (m .processes)
-
-abbrev rows : ℕ → Machine → Bool
-rows k m = every k (λ x. every 32 (shapedRegister m x))
-
-abbrev few : List ℕ
-few = 1 ∷ 2 ∷ 3 ∷ 32 ∷ []
-
-unfoldable seems : Machine → Bool
-seems m = records m && all (λ x. all (shapedRegister m x) few) few
-
 every-few : (f : ℕ → Bool) (is : List ℕ) → all known is ≡ true → ((i : ℕ) → 1 ≤ i → i ≤ 32 → f i ≡ true) → all f is ≡ true
 every-few f [] k h = refl
 every-few f (i ∷ is) k h =
@@ -197,15 +182,6 @@ shaped-seems m e =
     (every-true 32 (shapedRegister m x) (every-true 32 (λ x. every 32 (shapedRegister m x)) (and-second (records m) (rows 32 m) e) x lx hx)))
 
 -- That it is well shaped: above n all is zero, and the rest is tested.
-abbrev isZero : ℕ → Bool
-isZero v = eqb v 0
-
-abbrev blank : Machine → Bool
-blank m = all isZero (drop (m .n) (m .filled)) && all isZero (drop (32 * m .n) (m .values))
-
-unfoldable surely : Machine → Bool
-surely m = records m && (blank m && rows (m .n) m)
-
 above-shaped : (m : Machine) (x i : ℕ) → m .n < x → rowOf m x ≡ 0 → cellOf m x i ≡ 0 → shapedRegister m x i ≡ true
 unfolding shapedRegister
 above-shaped m x i a r c =
@@ -240,18 +216,6 @@ surely-shaped m e =
         (zero-from (32 * m .n) (m .values) (and-second (all isZero (drop (m .n) (m .filled))) _ empty) (32 * (x - 1) + (i - 1)) (omega arith))
 
 -- That the declared types hold it.
-abbrev word : ℕ → Bool
-word w = ltb w (2 ^ 32)
-
-abbrev foundWord : Process → Bool
-foundWord P = word (foundOf (P .stage))
-
-abbrev lengths : Machine → Bool
-lengths m = eqb (length (m .filled)) 32 && (eqb (length (m .values)) 1024 && eqb (length (m .processes)) 32)
-
-unfoldable fits : Machine → Bool
-fits m = lengths m && (all word (m .filled) && all foundWord (m .processes))
-
 fits-held : (m : Machine) → fits m ≡ true → Held m
 unfolding fits
 fits-held m e =
@@ -268,23 +232,15 @@ fits-held m e =
           (all-from foundWord nobody refl 0 (m .processes) (and-second (all word (m .filled)) _ w) (i - 1) (omega arith));
     }
 
--- The table, by computation.
-unfoldable passes : BothSides → Bool
-passes e = not (seems (e .broken)) && (surely (e .neighbour) && fits (e .neighbour))
-
-table-computes : all passes clausesOfTwo ≡ true
-unfolding passes seems surely fits shapedProcess shapedRegister every within first has plus count size wrote
-table-computes = refl
-
--- What a row of it comes to.
+-- What the tests of a pair come to: the first is not well shaped, and the second is.
 pub record Tested (e : BothSides) : Type 0 where
   pub broken : shaped (e .broken) ≡ false
   pub neighbour : shaped (e .neighbour) ≡ true
   pub held : Held (e .neighbour)
 
-row-tested : (e : BothSides) → passes e ≡ true → Tested e
+pair-tested : (e : BothSides) → passes e ≡ true → Tested e
 unfolding passes
-row-tested e t =
+pair-tested e t =
     record {
       broken = is-false (shaped (e .broken)) λ s. not-both (seems (e .broken)) (shaped-seems (e .broken) s) bad;
       neighbour = surely-shaped (e .neighbour) (and-first (surely (e .neighbour)) _ good);
@@ -297,18 +253,39 @@ row-tested e t =
     good : (surely (e .neighbour) && fits (e .neighbour)) ≡ true
     good = and-second (not (seems (e .broken))) _ t
 
--- The first is not well shaped, and the second is.
+-- All pairs.
+join : {l r : List BothSides} → Passing l → Passing r → Passing (l ++ r)
+join {l} {r} p q = record { computed = go l (p .computed) }
+  where
+    go : (l : List BothSides) → all passes l ≡ true → all passes (l ++ r) ≡ true
+    go [] e = q .computed
+    go (d ∷ l) e = both (passes d) (all passes (l ++ r)) (and-first (passes d) (all passes l) e) (go l (and-second (passes d) (all passes l) e))
+
+all-pass : Passing clausesOfTwo
+all-pass =
+    join (each-clause .rows-above)
+    (join (each-clause .slots-above)
+    (join (each-clause .absent)
+    (join (each-clause .beside)
+    (join (each-clause .level)
+    (join (each-clause .accesses)
+    (join (each-clause .read)
+    (join (each-clause .found)
+    (join (each-clause .size)
+    (join (each-clause .view)
+    (join (each-clause .filled)
+    (join (each-clause .written) (each-clause .value))))))))))))
+
 of-fresh : (bad good : ℕ) → shaped (fresh bad) ≡ false → 1 ≤ good → good ≤ 32 → Tested (record { broken = fresh bad; neighbour = fresh good })
 of-fresh bad good b lo hi = record { broken = b; neighbour = record-shaped (fresh good) (meets-fresh good lo hi .shape); held = held-fresh good }
 
 with-n : (es : List BothSides) → ((e : BothSides) → List·Memᴰ e es → Tested e) → (e : BothSides) → List·Memᴰ e (nIsInRange ++ es) → Tested e
-unfolding shaped
-with-n es rest e (List·Memᴰ·head q) = subst Tested (sym q) (of-fresh 0 1 refl (lit≤ tt) (lit≤ tt))
-with-n es rest e (List·Memᴰ·tail (List·Memᴰ·head q)) = subst Tested (sym q) (of-fresh 33 32 refl (lit≤ tt) (lit≤ tt))
+with-n es rest e (List·Memᴰ·head q) = subst Tested (sym q) (of-fresh 0 1 (outside .0) (lit≤ tt) (lit≤ tt))
+with-n es rest e (List·Memᴰ·tail (List·Memᴰ·head q)) = subst Tested (sym q) (of-fresh 33 32 (outside .1) (lit≤ tt) (lit≤ tt))
 with-n es rest e (List·Memᴰ·tail (List·Memᴰ·tail h)) = rest e h
 
 pub both-sides : (e : BothSides) → List·Memᴰ e everyClause → Tested e
-both-sides = with-n clausesOfTwo (λ e h. row-tested e (all-mem passes clausesOfTwo table-computes e h))
+both-sides = with-n clausesOfTwo (λ e h. pair-tested e (all-mem passes clausesOfTwo (all-pass .computed) e h))
 
 pub every-clause-tested : EveryClauseTested
 every-clause-tested =
