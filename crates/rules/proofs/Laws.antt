@@ -18,3 +18,4 @@ pub mod Table
 pub mod Looks
 pub mod Bare
 pub mod Examples
+pub mod Shapes

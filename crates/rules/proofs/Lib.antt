@@ -1,3 +1,4 @@
--- The laws of the definitions, and what the declared types say.
+-- The clauses of the shape computed, the laws of the definitions, and what the declared types say.
+pub mod Clauses
 pub mod Laws
 pub mod Typed

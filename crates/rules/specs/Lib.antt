@@ -6,3 +6,4 @@ pub mod Numbers
 pub mod Coded
 pub mod Statements
 pub mod Examples
+pub mod Shapes
