@@ -1,7 +1,7 @@
 -- Replaying along a whole file: where it stops, with which calls, and each number exactly when it applies there.
 use Prim.Native.Nat.{ℕ, zero, suc, _+_, _-_, _≤_, _<_}
 use mathlib.Core.Bool.{Bool, true, false, cond}
-use mathlib.Core.Path.{_≡_, refl, sym, ap, _∙_, subst}
+use mathlib.Core.Path.{_≡_, refl, sym, ap, _∙_, subst, subst₂}
 use mathlib.Core.Logic.{inl, inr, _≢_, ⊎-elim}
 use mathlib.Core.List.{List, [], _∷_, _++_, append-assoc, append-nil}
 use native.Mathlib.Nat.{eq-or-lt-of-le}
@@ -16,14 +16,15 @@ use Rattle.formats.specs.declared.FileAnswer.the-variants.{Whole, BudgetSpent}
 use Rattle.formats.specs.declared.Header.{Header}
 use Rattle.formats.specs.declared.Order.{Order}
 use Rattle.formats.specs.Numbers.{numberOf}
-use Rattle.formats.specs.Records.{headerOf, orderAt}
+use Rattle.formats.specs.Records.{byteAt, wordAt, headerOf, orderAt}
+use Rattle.formats.specs.Table.{headerLines}
 use Rattle.sets.specs.Lines.{firstThat}
 use Rattle.formats.proofs.Reading.{opened}
 use Rattle.formats.proofs.Table.{headerNumber, header-number, header-refused}
 use Rattle.replays.specs.Replays.{Orders, ended, then, onward, ordersFrom, replayBy, replayOf, callsBy, callsOf}
 use Rattle.replays.specs.Table.{orderLines, Holds, start, enter, step, crash, HoldsOne, Refusal, RefusedExactly, ToTheEnd, WholeExactly}
 use Rattle.replays.proofs.Turns.{width, whole-order, order-end, from-end, from-spent, from-order}
-use Rattle.replays.proofs.Orders.{orderNumber, order-number, not-end}
+use Rattle.replays.proofs.Orders.{orderNumber, order-number, enter-stands, step-stands, crash-stands, told}
 
 -- calls made before others
 after : List Call → Orders → Orders
@@ -55,17 +56,53 @@ one-more s budget at cs c o g l e f =
 fewer : (cs : List Call) (c : Call) (budget : ℕ) → length (cs ++ c ∷ []) ≤ budget → length cs ≤ budget
 fewer cs c budget l = omega (arith, length-append cs (c ∷ []))
 
+-- a header of which no line applies is read, and the other way round
+pub header-whole : (s : List ℕ) (n : ℕ) → headerOf s ≡ Header.Of n → firstThat (headerLines s) ≡ 0
+header-whole s n e = sym (header-number s) ∙ ap headerNumber e
+
+whole-by : (s : List ℕ) → firstThat (headerLines s) ≡ 0 → (h : Header) → headerOf s ≡ h → (n : ℕ) × (headerOf s ≡ Header.Of n)
+whole-by s z (Header.Of n) e = (n, e)
+whole-by s z (Header.Fault a) e = absurd (header-refused s a e (sym (ap headerNumber e) ∙ header-number s ∙ z))
+
+pub whole-header : (s : List ℕ) → firstThat (headerLines s) ≡ 0 → (n : ℕ) × (headerOf s ≡ Header.Of n)
+whole-header s z = whole-by s z (headerOf s) refl
+
 comes : {s : List ℕ} {at : ℕ} {cs : List Call} (budget : ℕ) → Holds s at cs → length cs ≤ budget → Comes s budget at cs
 unfolding after
-comes {s} budget (start {n = n} e) l =
-    let z : budget ≡ budget - 0 = omega arith in
-    record { inside = opened s n e .long; header = (n, e); same = ap (λ (k : ℕ). ordersFrom k s 3) z }
-comes {s} budget (enter {at = at} {cs = cs} {p = p} {v = v} h e) l =
-    one-more s budget at cs (enters p v) (Order.Enter p v) (comes budget h (fewer cs (enters p v) budget l)) l e (λ k. refl)
-comes {s} budget (step {at = at} {cs = cs} {p = p} h e) l =
-    one-more s budget at cs (steps p) (Order.Step p) (comes budget h (fewer cs (steps p) budget l)) l e (λ k. refl)
-comes {s} budget (crash {at = at} {cs = cs} {p = p} h e) l =
-    one-more s budget at cs (crashes p) (Order.Crash p) (comes budget h (fewer cs (crashes p) budget l)) l e (λ k. refl)
+comes {s} budget (start z) l =
+    let y : budget ≡ budget - 0 = omega arith in
+    let h = whole-header s z in
+    record { inside = opened s (h .0) (h .1) .long; header = h; same = ap (λ (k : ℕ). ordersFrom k s 3) y }
+comes {s} budget (enter {at = at} {cs = cs} h r) l =
+    let p = byteAt s (at + 2) in
+    let v = wordAt s (at + 3) in
+    one-more s budget at cs (enters p v) (Order.Enter p v) (comes budget h (fewer cs (enters p v) budget l)) l (enter-stands s at r) (λ k. refl)
+comes {s} budget (step {at = at} {cs = cs} h r) l =
+    let p = byteAt s (at + 2) in
+    one-more s budget at cs (steps p) (Order.Step p) (comes budget h (fewer cs (steps p) budget l)) l (step-stands s at r) (λ k. refl)
+comes {s} budget (crash {at = at} {cs = cs} h r) l =
+    let p = byteAt s (at + 2) in
+    one-more s budget at cs (crashes p) (Order.Crash p) (comes budget h (fewer cs (crashes p) budget l)) l (crash-stands s at r) (λ k. refl)
+
+-- an order that is read is held
+module _ (s : List ℕ) (at : ℕ) (cs : List Call) (h : Holds s at cs) (l : at ≤ length s) where
+  here : (o : Order) → 1 ≤ width o → orderAt s at ≡ o → at < length s
+  here o w e = omega (arith, whole-order s at o l e)
+
+  held-enter : (p v : ℕ) → orderAt s at ≡ Order.Enter p v → Holds s (at + 7) (cs ++ enters p v ∷ [])
+  held-enter p v e =
+      let t = told s at (Order.Enter p v) (here (Order.Enter p v) (omega arith) e) e in
+      subst₂ (λ (q w : ℕ). Holds s (at + 7) (cs ++ enters q w ∷ [])) (t .1) (t .2) (enter h (t .0))
+
+  held-step : (p : ℕ) → orderAt s at ≡ Order.Step p → Holds s (at + 3) (cs ++ steps p ∷ [])
+  held-step p e =
+      let t = told s at (Order.Step p) (here (Order.Step p) (omega arith) e) e in
+      subst (λ (q : ℕ). Holds s (at + 3) (cs ++ steps q ∷ [])) (t .1) (step h (t .0))
+
+  held-crash : (p : ℕ) → orderAt s at ≡ Order.Crash p → Holds s (at + 3) (cs ++ crashes p ∷ [])
+  held-crash p e =
+      let t = told s at (Order.Crash p) (here (Order.Crash p) (omega arith) e) e in
+      subst (λ (q : ℕ). Holds s (at + 3) (cs ++ crashes q ∷ [])) (t .1) (crash h (t .0))
 
 -- Where reading stops, from a place on with k orders left to take: at the end, at the budget, or at a fault.
 data Why (s : List ℕ) (k : ℕ) (o : Orders) : Type 0 where
@@ -110,7 +147,7 @@ stops-by : (s : List ℕ) (k at : ℕ) (cs : List Call) → Holds s at cs → at
     → ((at : ℕ) (cs : List Call) → Holds s at cs → at ≤ length s → Stops s k cs (ordersFrom k s at))
     → (o : Order) → orderAt s at ≡ o → Stops s (suc k) cs (onward s at o (ordersFrom k s))
 stops-by s k at cs h l go Order.End e =
-    ⊎-elim (λ q. stops-end s (suc k) at cs h q) (λ q. absurd (not-end s at q e)) (eq-or-lt-of-le l)
+    ⊎-elim (λ q. stops-end s (suc k) at cs h q) (λ q. absurd (told s at Order.End q e)) (eq-or-lt-of-le l)
 stops-by s k at cs h l go (Order.Fault a) e =
     ⊎-elim
     (λ q. let z : Order.End ≡ Order.Fault a = sym (order-end s at (omega arith)) ∙ e in
@@ -118,11 +155,11 @@ stops-by s k at cs h l go (Order.Fault a) e =
     (λ q. record { held = holds-none s at cs h; most = omega arith; why = fault a refl q (omega arith) e })
     (eq-or-lt-of-le l)
 stops-by s k at cs h l go (Order.Enter p v) e =
-    stops-then s k cs (enters p v) (ordersFrom k s (at + 7)) (go (at + 7) (cs ++ enters p v ∷ []) (enter h e) (whole-order s at (Order.Enter p v) l e))
+    stops-then s k cs (enters p v) (ordersFrom k s (at + 7)) (go (at + 7) (cs ++ enters p v ∷ []) (held-enter s at cs h l p v e) (whole-order s at (Order.Enter p v) l e))
 stops-by s k at cs h l go (Order.Step p) e =
-    stops-then s k cs (steps p) (ordersFrom k s (at + 3)) (go (at + 3) (cs ++ steps p ∷ []) (step h e) (whole-order s at (Order.Step p) l e))
+    stops-then s k cs (steps p) (ordersFrom k s (at + 3)) (go (at + 3) (cs ++ steps p ∷ []) (held-step s at cs h l p e) (whole-order s at (Order.Step p) l e))
 stops-by s k at cs h l go (Order.Crash p) e =
-    stops-then s k cs (crashes p) (ordersFrom k s (at + 3)) (go (at + 3) (cs ++ crashes p ∷ []) (crash h e) (whole-order s at (Order.Crash p) l e))
+    stops-then s k cs (crashes p) (ordersFrom k s (at + 3)) (go (at + 3) (cs ++ crashes p ∷ []) (held-crash s at cs h l p e) (whole-order s at (Order.Crash p) l e))
 
 stops : (k : ℕ) (s : List ℕ) (at : ℕ) (cs : List Call) → Holds s at cs → at ≤ length s → Stops s k cs (ordersFrom k s at)
 unfolding ordersFrom
@@ -184,7 +221,7 @@ holds-one s at cs ds h g =
 
 -- a file whose header is read
 file-stops : (s : List ℕ) (budget n : ℕ) → headerOf s ≡ Header.Of n → Stops s budget [] (ordersFrom budget s 3)
-file-stops s budget n e = stops budget s 3 [] (start e) (opened s n e .long)
+file-stops s budget n e = stops budget s 3 [] (start (header-whole s n e)) (opened s n e .long)
 
 -- what a replay answers, by its header
 module _ (s : List ℕ) (budget : ℕ) where

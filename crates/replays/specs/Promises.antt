@@ -3,24 +3,25 @@
 use Prim.Native.Nat.{ℕ, _+_, _-_, _*_, _≤_, _<_}
 use mathlib.Core.Bool.{true}
 use mathlib.Core.Path.{_≡_}
-use mathlib.Core.Logic.{_↔_}
+use mathlib.Core.Logic.{_↔_, _≢_}
 use mathlib.Core.List.{List, _++_}
 use lib.ListN.{length, getD, drop}
 use Rattle.sets.specs.Sets.{count, size}
 use Rattle.sets.specs.Immediate.{Immediate}
+use Rattle.sets.specs.Lines.{firstThat}
 use Rattle.rules.specs.declared.Machine.{Machine}
 use Rattle.rules.specs.declared.Standing.{Standing}
 use Rattle.rules.specs.State.{stageOf, finished, foundOf}
 use Rattle.rules.specs.Shape.{Held, Words, shaped}
-use Rattle.rules.specs.Calls.{lookOf}
+use Rattle.rules.specs.Calls.{fresh, lookOf}
 use Rattle.rules.specs.Statements.{Meets}
 use Rattle.history.specs.Runs.{Call, runs, acceptedSteps, allSteps, refusedCalls, reached, given}
 use Rattle.history.specs.Views.{Has, View}
 use Rattle.history.specs.Theorems.{OfEveryRun, NeitherOneNorSeven, total}
-use Rattle.formats.specs.declared.FileAnswer.{FileAnswer}
 use Rattle.formats.specs.declared.FileAnswer.the-variants.{Whole}
-use Rattle.formats.specs.declared.Header.{Header}
-use Rattle.formats.specs.Records.{headerOf}
+use Rattle.formats.specs.Numbers.{numberOf}
+use Rattle.formats.specs.Records.{byteAt}
+use Rattle.formats.specs.Table.{headerLines}
 use Rattle.formats.specs.Views.{owns, seenBy, valueBy}
 use Rattle.formats.specs.ViewFile.{readOf, readWhole}
 use Rattle.formats.specs.Promises.{Bytes}
@@ -28,7 +29,7 @@ use Rattle.findings.specs.declared.Finding.{Finding}
 use Rattle.findings.specs.Findings.{found, checkOf}
 use Rattle.findings.specs.Verdict.{judged, verdictOf}
 use Rattle.replays.specs.declared.Replayed.{Replayed}
-use Rattle.replays.specs.Replays.{replayed, replayOf, callsOf, processesOf, noReplay}
+use Rattle.replays.specs.Replays.{replayed, replayOf, callsOf, processesOf}
 use Rattle.replays.specs.Writes.{writeNumber, viewsOf, bytesOf, writeOf, bufferOf}
 use Rattle.replays.specs.OrderFile.{orderFile, WordCalls}
 use Rattle.replays.specs.Table.{Holds}
@@ -45,17 +46,30 @@ pub record Counted (n : ℕ) (cs : List Call) (budget : ℕ) (r : Replayed) : Ty
 abbrev pub EveryFileCounted : Type 0
 EveryFileCounted = (s : List ℕ) (budget : ℕ) → Counted (processesOf s) (callsOf s budget) budget (replayOf s budget)
 
+-- Of a file whose header has no fault these are the calls that its bytes hold, on a machine of as many processes as its third byte says.
+pub record FromBytes (s : List ℕ) (budget : ℕ) : Type 0 where
+  pub processes : processesOf s ≡ byteAt s 2
+  pub calls : Holds s (replayOf s budget .place) (callsOf s budget)
+
 abbrev pub EveryFileHolds : Type 0
-EveryFileHolds = (s : List ℕ) (budget n : ℕ) → headerOf s ≡ Header.Of n → Holds s (replayOf s budget .place) (callsOf s budget)
+EveryFileHolds = (s : List ℕ) (budget : ℕ) → firstThat (headerLines s) ≡ 0 → FromBytes s budget
 
 -- The other way, every list of calls whose values four bytes can hold is the replay of a file, with any budget that is enough.
 abbrev pub EveryListReplays : Type 0
 EveryListReplays = (n : ℕ) → 1 ≤ n → n ≤ 32 → (cs : List Call) → WordCalls cs → (budget : ℕ) → length cs ≤ budget
     → replayOf (orderFile n cs) budget ≡ replayed n (record { answer = Whole; place = length (orderFile n cs); calls = cs })
 
--- "After a refused header the state is a fresh machine of one process and the three counts are 0", at every budget.
-abbrev pub RefusedHeader : Type 0
-RefusedHeader = (s : List ℕ) (budget : ℕ) (a : FileAnswer) → headerOf s ≡ Header.Fault a → replayOf s budget ≡ noReplay a
+-- "After a refused header the state is a fresh machine of one process and the three counts are 0", at every budget: "its own faults come before 13".
+pub record NoneTaken (k : ℕ) (r : Replayed) : Type 0 where
+  pub number : numberOf (r .answer) ≡ k
+  pub place : r .place ≡ 0
+  pub taken : r .taken ≡ 0
+  pub accesses : r .accesses ≡ 0
+  pub refused : r .refused ≡ 0
+  pub state : r .machine ≡ fresh 1
+
+abbrev pub EveryRefusedHeader : Type 0
+EveryRefusedHeader = (s : List ℕ) (budget : ℕ) → firstThat (headerLines s) ≢ 0 → NoneTaken (firstThat (headerLines s)) (replayOf s budget)
 
 -- Demand 3 of a state m that a list of calls leaves of a fresh machine of n processes.
 pub record DemandThree (n : ℕ) (cs : List Call) (m : Machine) : Type 0 where
