@@ -261,13 +261,13 @@ reads-back v r =
     ∙ back v r 32 0 refl s pre (noneOf (v .n)) (length s) (upto-none v) refl (omega arith)
 
 -- What is written is bytes.
-bytes-none : Bytes []
+pub bytes-none : Bytes []
 bytes-none i = omega arith
 
-bytes-one : (x : ℕ) (t : List ℕ) → x < 256 → Bytes t → Bytes (x ∷ t)
+pub bytes-one : (x : ℕ) (t : List ℕ) → x < 256 → Bytes t → Bytes (x ∷ t)
 bytes-one x t h b = elim [ zero ↦ h | suc i ↦ b i ]
 
-bytes-append : (l m : List ℕ) → Bytes l → Bytes m → Bytes (l ++ m)
+pub bytes-append : (l m : List ℕ) → Bytes l → Bytes m → Bytes (l ++ m)
 bytes-append [] m a b = b
 bytes-append (x ∷ l) m a b = bytes-one x (l ++ m) (a 0) (bytes-append l m (λ i. a (suc i)) b)
 
@@ -277,7 +277,7 @@ bytes-joined a zero f h = bytes-none
 bytes-joined a (suc k) f h =
     bytes-append (f a) (joined (suc a) k f) (h a (omega arith) (omega arith)) (bytes-joined (suc a) k f (λ i l m. h i (omega arith) (omega arith)))
 
-bytes-word : (x : ℕ) → Bytes (wordBytes x)
+pub bytes-word : (x : ℕ) → Bytes (wordBytes x)
 bytes-word x =
     bytes-one (x % 256) (x / 256 % 256 ∷ x / 65536 % 256 ∷ x / 16777216 % 256 ∷ []) (omega arith)
     (bytes-one (x / 256 % 256) (x / 65536 % 256 ∷ x / 16777216 % 256 ∷ []) (omega arith)

@@ -16,7 +16,7 @@ use Rattle.formats.specs.Records.{byteAt, orderAt}
 use Rattle.formats.proofs.Bytes.{word-back, byte-past, word-past}
 use Rattle.formats.proofs.Table.{header-read}
 use Rattle.replays.specs.Replays.{Orders, then, onward, ordersFrom, replayed, replayBy, replayOf}
-use Rattle.replays.specs.OrderFile.{callBytes, orderBytes, orderFile, WordCall, WordCalls}
+use Rattle.replays.specs.OrderFile.{callBytes, orderBytes, orderFile, FileCall, FileCalls}
 use Rattle.replays.specs.Promises.{EveryListReplays}
 use Rattle.replays.specs.Table.{marked}
 use Rattle.replays.proofs.Turns.{from-end, from-order}
@@ -40,10 +40,10 @@ module _ (a t : List ℕ) where
   marks : (l : List ℕ) (t : String) → marked l 0 t ≡ true → marked (a ++ l) (length a) t ≡ true
   marks l t e = ap₂ (λ (x y : ℕ). eqb x (byteAt (ascii t) 0) && eqb y (byteAt (ascii t) 1)) (at-0 l) (byte-past a l 1) ∙ e
 
-  stands : (c : Call) → WordCall c → orderAt (a ++ (callBytes c ++ t)) (length a) ≡ orderOf c
+  stands : (c : Call) → FileCall c → orderAt (a ++ (callBytes c ++ t)) (length a) ≡ orderOf c
   stands (enters p v) w =
       let l : List ℕ = callBytes (enters p v) ++ t in
-      enter-at (a ++ l) (length a) (long l 7 (omega arith)) (marks l "EN" refl) ∙ ap₂ Order.Enter (byte-past a l 2) (word-past a l 3 ∙ word-back v t w)
+      enter-at (a ++ l) (length a) (long l 7 (omega arith)) (marks l "EN" refl) ∙ ap₂ Order.Enter (byte-past a l 2) (word-past a l 3 ∙ word-back v t (w .1))
   stands (steps p) w =
       let l : List ℕ = callBytes (steps p) ++ t in
       step-at (a ++ l) (length a) (long l 3 (omega arith)) (marks l "ST" refl) ∙ ap Order.Step (byte-past a l 2)
@@ -61,7 +61,7 @@ follows s at k (crashes p) = refl
 abbrev whole : List ℕ → List Call → Orders
 whole s cs = record { answer = Whole; place = length s; calls = cs }
 
-reads : (cs : List Call) (a : List ℕ) (k : ℕ) → WordCalls cs → length cs ≤ k → ordersFrom k (a ++ orderBytes cs) (length a) ≡ whole (a ++ orderBytes cs) cs
+reads : (cs : List Call) (a : List ℕ) (k : ℕ) → FileCalls cs → length cs ≤ k → ordersFrom k (a ++ orderBytes cs) (length a) ≡ whole (a ++ orderBytes cs) cs
 unfolding orderBytes
 reads [] a k w h = from-end k (a ++ []) (length a) (omega (arith, length-append a []))
 reads (c ∷ cs) a zero w h = absurd (omega arith)

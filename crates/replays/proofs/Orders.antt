@@ -4,7 +4,7 @@ use Prim.Native.Nat.{ℕ, _+_, _≤_, _<_}
 use Prim.Native.String.{String}
 use mathlib.Core.Bool.{Bool, true, false, not, _&&_, _||_, cond, and-eq-true-iff}
 use mathlib.Core.Path.{_≡_, refl, sym, ap, ap₂, _∙_, subst}
-use mathlib.Core.Logic.{⊎-elim}
+use mathlib.Core.Logic.{_≢_, ⊎-elim}
 use mathlib.Core.List.{List, [], _∷_}
 use native.Mathlib.Omega.{arith}
 use lib.Dec.{leb, ltb, eqb}
@@ -21,7 +21,8 @@ use Rattle.sets.specs.Lines.{when, firstThat}
 use Rattle.replays.specs.Table.{marked, orderLines, Stands}
 
 -- Marks: the two bytes of one, and what they say of another.
-mark-bytes : (s : List ℕ) (at : ℕ) (t : String) → marked s at t ≡ true → (byteAt s at ≡ byteAt (ascii t) 0) × (byteAt s (at + 1) ≡ byteAt (ascii t) 1)
+pub mark-bytes : (s : List ℕ) (at : ℕ) (t : String) → marked s at t ≡ true
+    → (byteAt s at ≡ byteAt (ascii t) 0) × (byteAt s (at + 1) ≡ byteAt (ascii t) 1)
 mark-bytes s at t e =
     let b = and-eq-true-iff (eqb (byteAt s at) (byteAt (ascii t) 0)) (eqb (byteAt s (at + 1)) (byteAt (ascii t) 1)) .0 e in
     (eqb-true (byteAt s at) (byteAt (ascii t) 0) (b .0), eqb-true (byteAt s (at + 1)) (byteAt (ascii t) 1) (b .1))
@@ -78,14 +79,23 @@ body-there s at t r =
     (cond (marked s at "EN") (ltb (length s) (at + 7)) (ltb (length s) (at + 3))) (r .whole)
 
 module _ (s : List ℕ) (at : ℕ) where
+  pub enter-long : Stands s at "EN" → at + 7 ≤ length s
+  enter-long r = ltb-false (length s) (at + 7) (body-there s at "EN" r)
+
+  pub step-long : Stands s at "ST" → at + 3 ≤ length s
+  step-long r = ltb-false (length s) (at + 3) (body-there s at "ST" r)
+
+  pub crash-long : Stands s at "CR" → at + 3 ≤ length s
+  crash-long r = ltb-false (length s) (at + 3) (body-there s at "CR" r)
+
   pub enter-stands : Stands s at "EN" → orderAt s at ≡ Order.Enter (byteAt s (at + 2)) (wordAt s (at + 3))
-  enter-stands r = enter-at s at (ltb-false (length s) (at + 7) (body-there s at "EN" r)) (r .mark)
+  enter-stands r = enter-at s at (enter-long r) (r .mark)
 
   pub step-stands : Stands s at "ST" → orderAt s at ≡ Order.Step (byteAt s (at + 2))
-  step-stands r = step-at s at (ltb-false (length s) (at + 3) (body-there s at "ST" r)) (r .mark)
+  step-stands r = step-at s at (step-long r) (r .mark)
 
   pub crash-stands : Stands s at "CR" → orderAt s at ≡ Order.Crash (byteAt s (at + 2))
-  crash-stands r = crash-at s at (ltb-false (length s) (at + 3) (body-there s at "CR" r)) (r .mark)
+  crash-stands r = crash-at s at (crash-long r) (r .mark)
 
 -- a failed order is the other order
 not-leb : (a b c : ℕ) → a ≡ c → not (leb a b) ≡ ltb b c
@@ -135,10 +145,10 @@ orderNumber (Order.Enter p v) = 0
 orderNumber (Order.Step p) = 0
 orderNumber (Order.Crash p) = 0
 
--- which mark an order has, and the numbers in it
+-- which mark an order has, and the numbers in it; a fault has a number
 abbrev Tells : Bool → Bool → Bool → ℕ → ℕ → Order → Type 0
 Tells en st cr q w Order.End = ⊥
-Tells en st cr q w (Order.Fault a) = Unit {0}
+Tells en st cr q w (Order.Fault a) = numberOf a ≢ 0
 Tells en st cr q w (Order.Enter p v) = (en ≡ true) × (q ≡ p) × (w ≡ v)
 Tells en st cr q w (Order.Step p) = (st ≡ true) × (q ≡ p)
 Tells en st cr q w (Order.Crash p) = (cr ≡ true) × (q ≡ p)
@@ -149,15 +159,15 @@ of-chain : (a b en st cr f g : Bool) (p v : ℕ)
     ≡ firstThat (when 11 a ∷ when 12 b ∷ when 10 (not (en || st || cr)) ∷ when 11 (cond en (not f) (not g)) ∷ []))
     × Tells en st cr p v (chain a b en st cr (bodied f (Order.Enter p v)) (bodied g (Order.Step p)) (bodied g (Order.Crash p)))
 unfolding chain bodied
-of-chain true b en st cr f g p v = (refl, tt)
-of-chain false true en st cr f g p v = (refl, tt)
+of-chain true b en st cr f g p v = (refl, λ e. omega arith)
+of-chain false true en st cr f g p v = (refl, λ e. omega arith)
 of-chain false false true st cr true g p v = (refl, (refl, refl, refl))
-of-chain false false true st cr false g p v = (refl, tt)
+of-chain false false true st cr false g p v = (refl, λ e. omega arith)
 of-chain false false false true cr f true p v = (refl, (refl, refl))
-of-chain false false false true cr f false p v = (refl, tt)
+of-chain false false false true cr f false p v = (refl, λ e. omega arith)
 of-chain false false false false true f true p v = (refl, (refl, refl))
-of-chain false false false false true f false p v = (refl, tt)
-of-chain false false false false false f g p v = (refl, tt)
+of-chain false false false false true f false p v = (refl, λ e. omega arith)
+of-chain false false false false false f g p v = (refl, λ e. omega arith)
 
 pub order-number : (s : List ℕ) (at : ℕ) → at < length s → orderNumber (orderAt s at) ≡ firstThat (orderLines s at)
 order-number s at h =
@@ -172,7 +182,7 @@ order-number s at h =
 -- an order that is read stands there
 abbrev pub Told : List ℕ → ℕ → Order → Type 0
 Told s at Order.End = ⊥
-Told s at (Order.Fault a) = Unit {0}
+Told s at (Order.Fault a) = numberOf a ≢ 0
 Told s at (Order.Enter p v) = Stands s at "EN" × (byteAt s (at + 2) ≡ p) × (wordAt s (at + 3) ≡ v)
 Told s at (Order.Step p) = Stands s at "ST" × (byteAt s (at + 2) ≡ p)
 Told s at (Order.Crash p) = Stands s at "CR" × (byteAt s (at + 2) ≡ p)
@@ -180,7 +190,7 @@ Told s at (Order.Crash p) = Stands s at "CR" × (byteAt s (at + 2) ≡ p)
 told-by : (s : List ℕ) (at : ℕ) → at < length s → (o : Order) → orderNumber o ≡ firstThat (orderLines s at)
     → Tells (marked s at "EN") (marked s at "ST") (marked s at "CR") (byteAt s (at + 2)) (wordAt s (at + 3)) o → Told s at o
 told-by s at h Order.End n t = t
-told-by s at h (Order.Fault a) n t = tt
+told-by s at h (Order.Fault a) n t = t
 told-by s at h (Order.Enter p v) n t = (record { left = h; whole = sym n; mark = t .0 }, t .1, t .2)
 told-by s at h (Order.Step p) n t = (record { left = h; whole = sym n; mark = t .0 }, t .1)
 told-by s at h (Order.Crash p) n t = (record { left = h; whole = sym n; mark = t .0 }, t .1)

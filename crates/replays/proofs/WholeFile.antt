@@ -22,7 +22,7 @@ use Rattle.sets.specs.Lines.{firstThat}
 use Rattle.formats.proofs.Reading.{opened}
 use Rattle.formats.proofs.Table.{headerNumber, header-number, header-refused}
 use Rattle.replays.specs.Replays.{Orders, ended, then, onward, ordersFrom, replayBy, replayOf, callsBy, callsOf}
-use Rattle.replays.specs.Table.{orderLines, Holds, start, enter, step, crash, HoldsOne, Refusal, RefusedExactly, ToTheEnd, WholeExactly}
+use Rattle.replays.specs.Table.{orderLines, Holds, start, enter, step, crash, HoldsOne, Refusal, RefusedExactly, WholeExactly, WholePlace}
 use Rattle.replays.proofs.Turns.{width, whole-order, order-end, from-end, from-spent, from-order}
 use Rattle.replays.proofs.Orders.{orderNumber, order-number, enter-stands, step-stands, crash-stands, told}
 
@@ -155,11 +155,14 @@ stops-by s k at cs h l go (Order.Fault a) e =
     (λ q. record { held = holds-none s at cs h; most = omega arith; why = fault a refl q (omega arith) e })
     (eq-or-lt-of-le l)
 stops-by s k at cs h l go (Order.Enter p v) e =
-    stops-then s k cs (enters p v) (ordersFrom k s (at + 7)) (go (at + 7) (cs ++ enters p v ∷ []) (held-enter s at cs h l p v e) (whole-order s at (Order.Enter p v) l e))
+    stops-then s k cs (enters p v) (ordersFrom k s (at + 7))
+    (go (at + 7) (cs ++ enters p v ∷ []) (held-enter s at cs h l p v e) (whole-order s at (Order.Enter p v) l e))
 stops-by s k at cs h l go (Order.Step p) e =
-    stops-then s k cs (steps p) (ordersFrom k s (at + 3)) (go (at + 3) (cs ++ steps p ∷ []) (held-step s at cs h l p e) (whole-order s at (Order.Step p) l e))
+    stops-then s k cs (steps p) (ordersFrom k s (at + 3))
+    (go (at + 3) (cs ++ steps p ∷ []) (held-step s at cs h l p e) (whole-order s at (Order.Step p) l e))
 stops-by s k at cs h l go (Order.Crash p) e =
-    stops-then s k cs (crashes p) (ordersFrom k s (at + 3)) (go (at + 3) (cs ++ crashes p ∷ []) (held-crash s at cs h l p e) (whole-order s at (Order.Crash p) l e))
+    stops-then s k cs (crashes p) (ordersFrom k s (at + 3))
+    (go (at + 3) (cs ++ crashes p ∷ []) (held-crash s at cs h l p e) (whole-order s at (Order.Crash p) l e))
 
 stops : (k : ℕ) (s : List ℕ) (at : ℕ) (cs : List Call) → Holds s at cs → at ≤ length s → Stops s k cs (ordersFrom k s at)
 unfolding ordersFrom
@@ -323,24 +326,40 @@ pub refused-exactly : RefusedExactly
 refused-exactly s budget k at n = (λ p. refusal-by s budget k at n (headerOf s) refl (p .0) (p .1), refused-at s budget k at n)
 
 -- And 0.
-ends-by : (s : List ℕ) (budget : ℕ) (cs : List Call) → ToTheEnd s budget cs → (h : Header) → headerOf s ≡ h → Holds s (length s) cs × (length cs ≤ budget)
-ends-by s budget cs t (Header.Fault a) e = absurd (header-refused s a e (sym (ap numberOf (refused-header s budget a e .0)) ∙ t .number))
-ends-by s budget cs t (Header.Of n) e =
-    let c : ordersFrom budget s 3 .calls ≡ cs = sym (read-header s budget n e .2) ∙ t .calls in (
-      subst (λ (x : ℕ). Holds s x cs) (t .place) (subst (Holds s (replayOf s budget .place)) (t .calls) (held-calls s budget n e)),
-      omega (arith, few-calls s budget n e, ap length c),
-    )
+whole-why : (s : List ℕ) (k : ℕ) (o : Orders) → Why s k o → numberOf (o .answer) ≡ 0 → o .place ≡ length s
+whole-why s k o (whole w q) z = q
+whole-why s k o (spent w q l) z = absurd (omega (arith, ap numberOf w))
+whole-why s k o (fault a w q l f) z = absurd (told s (o .place) (Order.Fault a) q f (ap numberOf (sym w) ∙ z))
 
-ends-with : (s : List ℕ) (budget : ℕ) (cs : List Call) → Comes s budget (length s) cs → ToTheEnd s budget cs
+-- a file whose header is read
+read-zero : (s : List ℕ) (budget : ℕ) → numberOf (replayOf s budget .answer) ≡ 0 → (h : Header) → headerOf s ≡ h → (n : ℕ) × (headerOf s ≡ Header.Of n)
+read-zero s budget z (Header.Of n) e = (n, e)
+read-zero s budget z (Header.Fault a) e = absurd (header-refused s a e (sym (ap numberOf (refused-header s budget a e .0)) ∙ z))
+
+pub zero-read : (s : List ℕ) (budget : ℕ) → numberOf (replayOf s budget .answer) ≡ 0 → (n : ℕ) × (headerOf s ≡ Header.Of n)
+zero-read s budget z = read-zero s budget z (headerOf s) refl
+
+pub whole-place : WholePlace
+whole-place s budget z =
+    let h = zero-read s budget z in
+    let r = read-header s budget (h .0) (h .1) in
+    r .1 ∙ whole-why s budget (ordersFrom budget s 3) (file-stops s budget (h .0) (h .1) .why) (ap numberOf (sym (r .0)) ∙ z)
+
+ends-with : (s : List ℕ) (budget : ℕ) (cs : List Call) → Comes s budget (length s) cs
+    → (numberOf (replayOf s budget .answer) ≡ 0) × (callsOf s budget ≡ cs)
 unfolding after
 ends-with s budget cs c =
     let r = read-header s budget (c .header .0) (c .header .1) in
     let o : ordersFrom budget s 3 ≡ after cs (ended Whole (length s)) = c .same ∙ ap (after cs) (from-end (budget - length cs) s (length s) (omega arith)) in
-    record {
-      number = ap numberOf (r .0 ∙ ap (λ (x : Orders). x .answer) o);
-      place = r .1 ∙ ap (λ (x : Orders). x .place) o;
-      calls = r .2 ∙ ap (λ (x : Orders). x .calls) o ∙ append-nil cs;
-    }
+    (ap numberOf (r .0 ∙ ap (λ (x : Orders). x .answer) o), r .2 ∙ ap (λ (x : Orders). x .calls) o ∙ append-nil cs)
 
 pub whole-exactly : WholeExactly
-whole-exactly s budget cs = (λ t. ends-by s budget cs t (headerOf s) refl, λ p. ends-with s budget cs (comes budget (p .0) (p .1)))
+whole-exactly s budget cs = (
+  λ t.
+      let h = zero-read s budget (t .0) in
+      let c : ordersFrom budget s 3 .calls ≡ cs = sym (read-header s budget (h .0) (h .1) .2) ∙ t .1 in (
+        subst₂ (Holds s) (whole-place s budget (t .0)) (t .1) (held-calls s budget (h .0) (h .1)),
+        omega (arith, few-calls s budget (h .0) (h .1), ap length c),
+      ),
+  λ p. ends-with s budget cs (comes budget (p .0) (p .1)),
+)

@@ -5,7 +5,7 @@ use mathlib.Core.Bool.{true}
 use mathlib.Core.Path.{_≡_}
 use mathlib.Core.Logic.{_↔_, _≢_}
 use mathlib.Core.List.{List, _++_}
-use lib.ListN.{length, getD, drop}
+use lib.ListN.{length, getD, take, drop}
 use Rattle.sets.specs.Sets.{count, size}
 use Rattle.sets.specs.Immediate.{Immediate}
 use Rattle.sets.specs.Lines.{firstThat}
@@ -31,7 +31,7 @@ use Rattle.findings.specs.Verdict.{judged, verdictOf}
 use Rattle.replays.specs.declared.Replayed.{Replayed}
 use Rattle.replays.specs.Replays.{replayed, replayOf, callsOf, processesOf}
 use Rattle.replays.specs.Writes.{writeNumber, viewsOf, bytesOf, writeOf, bufferOf}
-use Rattle.replays.specs.OrderFile.{orderFile, WordCalls}
+use Rattle.replays.specs.OrderFile.{orderFile, FileCalls}
 use Rattle.replays.specs.Table.{Holds}
 
 -- Document 01: "replay takes at most the budget's orders; orders taken and accesses equal the counts in the history's definition". The list of
@@ -54,10 +54,28 @@ pub record FromBytes (s : List ℕ) (budget : ℕ) : Type 0 where
 abbrev pub EveryFileHolds : Type 0
 EveryFileHolds = (s : List ℕ) (budget : ℕ) → firstThat (headerLines s) ≡ 0 → FromBytes s budget
 
--- The other way, every list of calls whose values four bytes can hold is the replay of a file, with any budget that is enough.
+-- The other way, every list of calls that records can carry is the replay of a file, with any budget that is enough,
 abbrev pub EveryListReplays : Type 0
-EveryListReplays = (n : ℕ) → 1 ≤ n → n ≤ 32 → (cs : List Call) → WordCalls cs → (budget : ℕ) → length cs ≤ budget
+EveryListReplays = (n : ℕ) → 1 ≤ n → n ≤ 32 → (cs : List Call) → FileCalls cs → (budget : ℕ) → length cs ≤ budget
     → replayOf (orderFile n cs) budget ≡ replayed n (record { answer = Whole; place = length (orderFile n cs); calls = cs })
+
+-- and that file is bytes.
+abbrev pub OrderFileBytes : Type 0
+OrderFileBytes = (n : ℕ) → n ≤ 32 → (cs : List Call) → FileCalls cs → Bytes (orderFile n cs)
+
+-- Every file is such a file up to its place, if its header has no fault: a call that is taken is one that a record can carry, and its record has just
+-- the bytes that it is written with. Here and below `Bytes s` says no more than that the file holds bytes, as every slice of u8 that a function is
+-- handed does.
+pub record OfCalls (s : List ℕ) (budget : ℕ) : Type 0 where
+  pub carried : FileCalls (callsOf s budget)
+  pub bytes : take (replayOf s budget .place) s ≡ orderFile (processesOf s) (callsOf s budget)
+
+abbrev pub EveryFileOfCalls : Type 0
+EveryFileOfCalls = (s : List ℕ) → Bytes s → (budget : ℕ) → firstThat (headerLines s) ≡ 0 → OfCalls s budget
+
+-- So a file that is read whole is the file of its calls, byte for byte.
+abbrev pub WholeFileOfCalls : Type 0
+WholeFileOfCalls = (s : List ℕ) → Bytes s → (budget : ℕ) → numberOf (replayOf s budget .answer) ≡ 0 → s ≡ orderFile (processesOf s) (callsOf s budget)
 
 -- "After a refused header the state is a fresh machine of one process and the three counts are 0", at every budget: "its own faults come before 13".
 pub record NoneTaken (k : ℕ) (r : Replayed) : Type 0 where

@@ -35,7 +35,8 @@ pub record Stands (s : List ℕ) (at : ℕ) (t : String) : Type 0 where
   pub whole : firstThat (orderLines s at) ≡ 0
   pub mark : marked s at t ≡ true
 
--- The calls that the records of a file hold from its header up to a place: the process is the byte after the mark, the value the four bytes after that.
+-- The calls that the records of a file hold from its header up to a place: the process is the byte after the mark, the value the number in the four
+-- bytes after that.
 pub data Holds (s : List ℕ) : ℕ → List Call → Type 0 where
   start : firstThat (headerLines s) ≡ 0 → Holds s 3 []
   enter : {at : ℕ} {cs : List Call} → Holds s at cs → Stands s at "EN"
@@ -60,11 +61,11 @@ abbrev pub RefusedExactly : Type 0
 RefusedExactly = (s : List ℕ) (budget k at : ℕ) → k ≢ 0
     → ((numberOf (replayOf s budget .answer) ≡ k) × (replayOf s budget .place ≡ at)) ↔ Refusal s budget k at
 
--- and 0 exactly when the calls up to the file's end are within the budget: they are then the calls made
-pub record ToTheEnd (s : List ℕ) (budget : ℕ) (cs : List Call) : Type 0 where
-  pub number : numberOf (replayOf s budget .answer) ≡ 0
-  pub place : replayOf s budget .place ≡ length s
-  pub calls : callsOf s budget ≡ cs
-
+-- and 0 exactly when the records up to the file's end hold calls within the budget: they are then the calls made
 abbrev pub WholeExactly : Type 0
-WholeExactly = (s : List ℕ) (budget : ℕ) (cs : List Call) → ToTheEnd s budget cs ↔ (Holds s (length s) cs × (length cs ≤ budget))
+WholeExactly = (s : List ℕ) (budget : ℕ) (cs : List Call)
+    → ((numberOf (replayOf s budget .answer) ≡ 0) × (callsOf s budget ≡ cs)) ↔ (Holds s (length s) cs × (length cs ≤ budget))
+
+-- "or the file's length when all was read"
+abbrev pub WholePlace : Type 0
+WholePlace = (s : List ℕ) (budget : ℕ) → numberOf (replayOf s budget .answer) ≡ 0 → replayOf s budget .place ≡ length s
