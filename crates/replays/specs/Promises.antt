@@ -130,8 +130,13 @@ pub record AsLooked (m : Machine) (i : ℕ) : Type 0 where
   pub set : seenBy (viewsOf m) i ≡ lookOf m i .view
   pub values : (j : ℕ) → 1 ≤ j → j ≤ 32 → valueBy (viewsOf m) i j ≡ getD (lookOf m i .values) (j - 1) 0
 
+pub record ViewsLooked (m : Machine) : Type 0 where
+  pub processes : viewsOf m .n ≡ m .n
+  pub each : (i : ℕ) → 1 ≤ i → i ≤ m .n → AsLooked m i
+  pub no-other : (i : ℕ) → owns (viewsOf m) i ≡ true → (1 ≤ i) × (i ≤ m .n)
+
 abbrev pub EveryViewLooked : Type 0
-EveryViewLooked = (m : Machine) → shaped m ≡ true → (i : ℕ) → 1 ≤ i → i ≤ m .n → AsLooked m i
+EveryViewLooked = (m : Machine) → shaped m ≡ true → ViewsLooked m
 
 -- "A written view file reads back as the same views": of every well shaped machine that the declared types hold.
 abbrev pub WrittenReadsBack : Type 0
