@@ -15,7 +15,7 @@ use Rattle.formats.specs.declared.Order.{Order}
 use Rattle.formats.specs.Records.{byteAt, orderAt}
 use Rattle.formats.proofs.Bytes.{word-back, byte-past, word-past}
 use Rattle.formats.proofs.Table.{header-read}
-use Rattle.replays.specs.Replays.{Orders, then, onward, ordersFrom, replayed, replayBy, replayOf}
+use Rattle.replays.specs.Replays.{Orders, then, orderThen, ordersFrom, replayed, replayBy, replayOf}
 use Rattle.replays.specs.OrderFile.{callBytes, orderBytes, orderFile, FileCall, FileCalls}
 use Rattle.replays.specs.Promises.{EveryListReplays}
 use Rattle.replays.specs.Table.{marked}
@@ -52,7 +52,7 @@ module _ (a t : List ℕ) where
       crash-at (a ++ l) (length a) (long l 3 (omega arith)) (marks l "CR" refl) ∙ ap Order.Crash (byte-past a l 2)
 
 -- what follows a call's bytes
-follows : (s : List ℕ) (at k : ℕ) (c : Call) → onward s at (orderOf c) (ordersFrom k s) ≡ then c (ordersFrom k s (at + length (callBytes c)))
+follows : (s : List ℕ) (at k : ℕ) (c : Call) → orderThen s at (orderOf c) (ordersFrom k s) ≡ then c (ordersFrom k s (at + length (callBytes c)))
 follows s at k (enters p v) = refl
 follows s at k (steps p) = refl
 follows s at k (crashes p) = refl

@@ -21,7 +21,7 @@ use Rattle.formats.specs.Table.{headerLines}
 use Rattle.sets.specs.Lines.{firstThat}
 use Rattle.formats.proofs.Reading.{opened}
 use Rattle.formats.proofs.Table.{headerNumber, header-number, header-refused}
-use Rattle.replays.specs.Replays.{Orders, ended, then, onward, ordersFrom, replayBy, replayOf, callsBy, callsOf}
+use Rattle.replays.specs.Replays.{Orders, ended, then, orderThen, ordersFrom, replayBy, replayOf, callsBy, callsOf}
 use Rattle.replays.specs.Table.{orderLines, Holds, start, enter, step, crash, HoldsOne, Refusal, RefusedExactly, WholeExactly, WholePlace}
 use Rattle.replays.proofs.Turns.{width, whole-order, order-end, from-end, from-spent, from-order}
 use Rattle.replays.proofs.Orders.{orderNumber, order-number, enter-stands, step-stands, crash-stands, told}
@@ -42,7 +42,7 @@ record Comes (s : List ℕ) (budget at : ℕ) (cs : List Call) : Type 0 where
   same : ordersFrom budget s 3 ≡ after cs (ordersFrom (budget - length cs) s at)
 
 one-more : (s : List ℕ) (budget at : ℕ) (cs : List Call) (c : Call) (o : Order) → Comes s budget at cs → length (cs ++ c ∷ []) ≤ budget → orderAt s at ≡ o
-    → ((k : ℕ) → onward s at o (ordersFrom k s) ≡ then c (ordersFrom k s (at + width o))) → Comes s budget (at + width o) (cs ++ c ∷ [])
+    → ((k : ℕ) → orderThen s at o (ordersFrom k s) ≡ then c (ordersFrom k s (at + width o))) → Comes s budget (at + width o) (cs ++ c ∷ [])
 one-more s budget at cs c o g l e f =
     let k = budget - length (cs ++ c ∷ []) in
     let z : budget - length cs ≡ suc k = omega (arith, length-append cs (c ∷ [])) in
@@ -145,7 +145,7 @@ stops-then s k cs c o g =
 
 stops-by : (s : List ℕ) (k at : ℕ) (cs : List Call) → Holds s at cs → at ≤ length s
     → ((at : ℕ) (cs : List Call) → Holds s at cs → at ≤ length s → Stops s k cs (ordersFrom k s at))
-    → (o : Order) → orderAt s at ≡ o → Stops s (suc k) cs (onward s at o (ordersFrom k s))
+    → (o : Order) → orderAt s at ≡ o → Stops s (suc k) cs (orderThen s at o (ordersFrom k s))
 stops-by s k at cs h l go Order.End e =
     ⊎-elim (λ q. stops-end s (suc k) at cs h q) (λ q. absurd (told s at Order.End q e)) (eq-or-lt-of-le l)
 stops-by s k at cs h l go (Order.Fault a) e =
@@ -177,7 +177,7 @@ grows-zero s at l false = omega arith
 
 grows-by : (s : List ℕ) (k at : ℕ) → at ≤ length s
     → ((at : ℕ) → at ≤ length s → at + length (ordersFrom k s at .calls) ≤ ordersFrom k s at .place)
-    → (o : Order) → orderAt s at ≡ o → at + length (onward s at o (ordersFrom k s) .calls) ≤ onward s at o (ordersFrom k s) .place
+    → (o : Order) → orderAt s at ≡ o → at + length (orderThen s at o (ordersFrom k s) .calls) ≤ orderThen s at o (ordersFrom k s) .place
 grows-by s k at l go Order.End e = omega arith
 grows-by s k at l go (Order.Fault a) e = omega arith
 grows-by s k at l go (Order.Enter p v) e = omega (arith, go (at + 7) (whole-order s at (Order.Enter p v) l e))
