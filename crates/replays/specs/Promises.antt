@@ -64,8 +64,8 @@ abbrev pub OrderFileBytes : Type 0
 OrderFileBytes = (n : ℕ) → n ≤ 32 → (cs : List Call) → FileCalls cs → Bytes (orderFile n cs)
 
 -- Every file is such a file up to its place, if its header has no fault: a call that is taken is one that a record can carry, and its record has just
--- the bytes that it is written with. Here and below `Bytes s` says no more than that the file holds bytes, as every slice of u8 that a function is
--- handed does.
+-- the bytes that it is written with. `Bytes s`, here and below, leaves nothing open: every slice of bytes that a function is handed is such a list
+-- (`slice-bytes` of formats/proofs/Typed).
 pub record OfCalls (s : List ℕ) (budget : ℕ) : Type 0 where
   pub carried : FileCalls (callsOf s budget)
   pub bytes : take (replayOf s budget .place) s ≡ orderFile (processesOf s) (callsOf s budget)
@@ -154,6 +154,6 @@ pub record Accepted (m : Machine) : Type 0 where
 abbrev pub EveryRunAccepted : Type 0
 EveryRunAccepted = OfEveryRun λ n cs. Words (runs n cs) → Accepted (runs n cs)
 
--- so of every state that an order file leaves
+-- so of every state that an order file leaves; `Bytes s` as above: a value of four bytes is then a 32-bit number
 abbrev pub EveryFileAccepted : Type 0
 EveryFileAccepted = (s : List ℕ) → Bytes s → (budget : ℕ) → Accepted (replayOf s budget .machine)
