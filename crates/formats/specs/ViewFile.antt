@@ -1,6 +1,6 @@
 -- A view file: its bytes from the views, and the views from its bytes.
 use Prim.Native.Nat.{ℕ, zero, suc, _+_, _-_, _*_}
-use mathlib.Core.Bool.{Bool, true, false, not, _&&_, cond}
+use mathlib.Core.Bool.{Bool, not, _&&_, cond}
 use mathlib.Core.List.{List, [], _∷_, _++_}
 use lib.Dec.{leb}
 use lib.ListN.{length, set}
@@ -46,16 +46,12 @@ testedBy s at n own (ViewRecord.View p w) = testedView s at n own p w
 unfoldable pub testedAt : List ℕ → ℕ → ℕ → ℕ → ViewRecord
 testedAt s at n own = testedBy s at n own (viewAt s at)
 
--- one value stored, or none
-abbrev pub storedIf : Bool → List ℕ → ℕ → ℕ → List ℕ
-storedIf true values k x = set values k x
-storedIf false values k x = values
-
 -- the values of the members of w up to j, which stand from a place on, stored as those of process p's view
 unfoldable pub valuesRead : List ℕ → ℕ → ℕ → ℕ → ℕ → List ℕ → List ℕ
 valuesRead s from p w zero values = values
 valuesRead s from p w (suc j) values =
-    storedIf (has w (suc j)) (valuesRead s from p w j values) (cell p (suc j)) (wordAt s (from + 4 * count (has w) j))
+    let below : List ℕ = valuesRead s from p w j values in
+    cond (has w (suc j)) (set below (cell p (suc j)) (wordAt s (from + 4 * count (has w) j))) below
 
 -- the views with process p's view beside them, whose record stands at a place and names the processes of w
 abbrev pub withView : List ℕ → ℕ → Views → ℕ → ℕ → Views
@@ -75,9 +71,10 @@ onward s at v ViewRecord.End next = readWhole s v
 onward s at v (ViewRecord.Fault a) next = refusedAt a at
 onward s at v (ViewRecord.View p w) next = next (at + (7 + 4 * size w)) (withView s at v p w)
 
--- the records from a place on, `turns` of them at most; a record has seven bytes at least, so the file's length is enough
+-- The records from a place on, `turns` of them at most. A record has seven bytes at least, so the file's length is enough and no file comes to
+-- its last turn, which refuses: specs/Table says what is read, and what is refused, with no turns.
 unfoldable pub readFrom : ℕ → List ℕ → ℕ → Views → ViewsRead
-readFrom zero s at v = readWhole s v
+readFrom zero s at v = refusedAt BodyCut at
 readFrom (suc turns) s at v = onward s at v (testedAt s at (v .n) (v .own)) (readFrom turns s)
 
 abbrev pub readBy : List ℕ → Header → ViewsRead
