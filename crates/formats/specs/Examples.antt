@@ -7,16 +7,17 @@ use lib.Dec.{eqb}
 use Rattle.formats.specs.declared.FileAnswer.the-variants.{OtherMark, MarkCut, BodyCut, HeaderAgain}
 use Rattle.formats.specs.declared.Order.{Order}
 use Rattle.formats.specs.declared.ViewsRead.{ViewsRead}
+use Rattle.text.specs.Ascii.{ascii}
 use Rattle.formats.specs.Numbers.{numberOf}
 use Rattle.formats.specs.Records.{wordBytes, orderAt}
 use Rattle.formats.specs.ViewFile.{fileOf, readOf}
 
 -- the records: `MN` n, and `VW` p with the set w, before its values
 abbrev pub MN : ℕ → List ℕ
-MN n = 77 ∷ 78 ∷ n ∷ []
+MN n = ascii "MN" ++ n ∷ []
 
 abbrev pub VW : ℕ → ℕ → List ℕ
-VW p w = 86 ∷ 87 ∷ p ∷ wordBytes w
+VW p w = ascii "VW" ++ p ∷ wordBytes w
 
 pub record Example : Type 0 where
   pub file : List ℕ
@@ -36,20 +37,20 @@ both = VW 2 3 ++ wordBytes 5 ++ wordBytes 6
 abbrev pub examples : List Example
 examples =
     of [] 9 0
-    ∷ of (77 ∷ []) 11 0
+    ∷ of (ascii "M") 11 0
     ∷ of (0 ∷ []) 11 0
-    ∷ of (77 ∷ 78 ∷ []) 11 0
-    ∷ of (78 ∷ 77 ∷ 2 ∷ []) 9 0
-    ∷ of (86 ∷ 87 ∷ []) 9 0
+    ∷ of (ascii "MN") 11 0
+    ∷ of (ascii "NM" ++ 2 ∷ []) 9 0
+    ∷ of (ascii "VW") 9 0
     ∷ of (MN 0) 8 0
     ∷ of (MN 33) 8 0
     ∷ of (MN 32) 0 3
     ∷ of two 0 3
-    ∷ of (two ++ 86 ∷ []) 11 3
-    ∷ of (two ++ 77 ∷ 78 ∷ []) 12 3
-    ∷ of (two ++ 69 ∷ 78 ∷ []) 10 3
-    ∷ of (two ++ 86 ∷ 87 ∷ []) 11 3
-    ∷ of (two ++ 86 ∷ 87 ∷ 0 ∷ 0 ∷ 0 ∷ 0 ∷ []) 11 3
+    ∷ of (two ++ ascii "V") 11 3
+    ∷ of (two ++ ascii "MN") 12 3
+    ∷ of (two ++ ascii "EN") 10 3
+    ∷ of (two ++ ascii "VW") 11 3
+    ∷ of (two ++ ascii "VW" ++ 0 ∷ 0 ∷ 0 ∷ 0 ∷ []) 11 3
     ∷ of (two ++ VW 0 0) 14 3
     ∷ of (two ++ VW 3 0) 14 3
     ∷ of (two ++ VW 2 0) 0 10
@@ -59,7 +60,7 @@ examples =
     ∷ of (two ++ both ++ VW 1 4) 16 18
     ∷ of (two ++ both ++ VW 1 2147483648) 16 18
     ∷ of (two ++ both ++ VW 1 1) 11 18
-    ∷ of (two ++ both ++ VW 1 1 ++ wordBytes 7 ++ 86 ∷ []) 11 29
+    ∷ of (two ++ both ++ VW 1 1 ++ wordBytes 7 ++ ascii "V") 11 29
     ∷ []
 
 abbrev agrees : ViewsRead → ℕ → ℕ → Bool
@@ -79,11 +80,11 @@ WrittenAgain = fileOf (readOf (two ++ both) .views) ≡ two ++ both
 -- Records of an order file after its header, on both sides of 10, 11 and 12.
 pub record OrdersRead : Type 0 where
   pub nothing-left : orderAt two 3 ≡ Order.End
-  pub one-byte : orderAt (two ++ 69 ∷ []) 3 ≡ Order.Fault MarkCut
-  pub header-again : orderAt (two ++ 77 ∷ 78 ∷ []) 3 ≡ Order.Fault HeaderAgain
+  pub one-byte : orderAt (two ++ ascii "E") 3 ≡ Order.Fault MarkCut
+  pub header-again : orderAt (two ++ ascii "MN") 3 ≡ Order.Fault HeaderAgain
   pub foreign : orderAt (two ++ both) 3 ≡ Order.Fault OtherMark
-  pub enter : orderAt (two ++ 69 ∷ 78 ∷ 1 ∷ 7 ∷ 1 ∷ 0 ∷ 0 ∷ []) 3 ≡ Order.Enter 1 263
-  pub enter-cut : orderAt (two ++ 69 ∷ 78 ∷ 1 ∷ 7 ∷ 1 ∷ 0 ∷ []) 3 ≡ Order.Fault BodyCut
-  pub step : orderAt (two ++ 83 ∷ 84 ∷ 2 ∷ []) 3 ≡ Order.Step 2
-  pub step-cut : orderAt (two ++ 83 ∷ 84 ∷ []) 3 ≡ Order.Fault BodyCut
-  pub crash : orderAt (two ++ 67 ∷ 82 ∷ 0 ∷ 83 ∷ []) 3 ≡ Order.Crash 0
+  pub enter : orderAt (two ++ ascii "EN" ++ 1 ∷ 7 ∷ 1 ∷ 0 ∷ 0 ∷ []) 3 ≡ Order.Enter 1 263
+  pub enter-cut : orderAt (two ++ ascii "EN" ++ 1 ∷ 7 ∷ 1 ∷ 0 ∷ []) 3 ≡ Order.Fault BodyCut
+  pub step : orderAt (two ++ ascii "ST" ++ 2 ∷ []) 3 ≡ Order.Step 2
+  pub step-cut : orderAt (two ++ ascii "ST") 3 ≡ Order.Fault BodyCut
+  pub crash : orderAt (two ++ ascii "CR" ++ 0 ∷ ascii "S") 3 ≡ Order.Crash 0

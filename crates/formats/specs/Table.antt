@@ -13,7 +13,7 @@ use Rattle.formats.specs.declared.Header.{Header}
 use Rattle.formats.specs.declared.ViewRecord.{ViewRecord}
 use Rattle.formats.specs.declared.Views.{Views}
 use Rattle.formats.specs.Numbers.{numberOf}
-use Rattle.formats.specs.Records.{byteAt, wordAt, isMark, headerOf}
+use Rattle.formats.specs.Records.{byteAt, wordAt, reads, headerOf}
 use Rattle.formats.specs.Views.{noneOf}
 use Rattle.formats.specs.ViewFile.{testedAt, withView, readWhole, readOf}
 
@@ -22,7 +22,7 @@ abbrev pub headerLines : List ℕ → List Line
 headerLines s =
     when 9 (eqb (length s) 0)
     ∷ when 11 (eqb (length s) 1)
-    ∷ when 9 (not (isMark 77 78 (byteAt s 0) (byteAt s 1)))
+    ∷ when 9 (not (reads "MN" (byteAt s 0) (byteAt s 1)))
     ∷ when 11 (ltb (length s) 3)
     ∷ when 8 (not (leb 1 (byteAt s 2) && leb (byteAt s 2) 32))
     ∷ []
@@ -31,8 +31,8 @@ headerLines s =
 abbrev pub recordLines : List ℕ → ℕ → ℕ → ℕ → List Line
 recordLines s at n own =
     when 11 (eqb (length s) (at + 1))
-    ∷ when 12 (isMark 77 78 (byteAt s at) (byteAt s (at + 1)))
-    ∷ when 10 (not (isMark 86 87 (byteAt s at) (byteAt s (at + 1))))
+    ∷ when 12 (reads "MN" (byteAt s at) (byteAt s (at + 1)))
+    ∷ when 10 (not (reads "VW" (byteAt s at) (byteAt s (at + 1))))
     ∷ when 11 (ltb (length s) (at + 7))
     ∷ when 14 (not (leb 1 (byteAt s (at + 2)) && leb (byteAt s (at + 2)) n))
     ∷ when 15 (has own (byteAt s (at + 2)))

@@ -13,6 +13,7 @@ use Rattle.formats.specs.declared.Views.{Views}
 use Rattle.formats.specs.declared.ViewsRead.{ViewsRead}
 use Rattle.formats.specs.Records.{wordAt, wordBytes, fits, headerOf, viewAt}
 use Rattle.formats.specs.Views.{owns, seenBy, valueBy, cell, noneOf}
+use Rattle.text.specs.Ascii.{ascii}
 use Rattle.text.specs.Parts.{joined}
 
 -- The bytes. "`VW`, process (1), set (4; bit i-1 for process i), then one 4-byte value for each process in the set, ascending."
@@ -20,11 +21,11 @@ abbrev pub valueBytes : Views → ℕ → ℕ → List ℕ
 valueBytes v i j = cond (has (seenBy v i) j) (wordBytes (valueBy v i j)) []
 
 unfoldable pub viewBytes : Views → ℕ → List ℕ
-viewBytes v i = 86 ∷ 87 ∷ i ∷ wordBytes (seenBy v i) ++ joined 1 32 (valueBytes v i)
+viewBytes v i = ascii "VW" ++ i ∷ wordBytes (seenBy v i) ++ joined 1 32 (valueBytes v i)
 
 -- "`MN`, n (1 byte)", then the views, the processes ascending
 unfoldable pub fileOf : Views → List ℕ
-fileOf v = 77 ∷ 78 ∷ v .n ∷ joined 1 32 (λ i. cond (owns v i) (viewBytes v i) [])
+fileOf v = ascii "MN" ++ v .n ∷ joined 1 32 (λ i. cond (owns v i) (viewBytes v i) [])
 
 -- The views. "For `VW`: the five fixed bytes (11), 14, 15, 16, then the values (11)."
 abbrev pub valuesFit : List ℕ → ℕ → ℕ → Bool
