@@ -3,8 +3,9 @@ pub mod Tests
 pub mod Values
 pub mod Reading
 pub mod Turns
-pub mod Ranges
 pub mod Table
+pub mod Walked
+pub mod Ranges
 pub mod WholeFile
 pub mod Bytes
 pub mod RoundTrip

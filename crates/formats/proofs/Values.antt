@@ -1,14 +1,15 @@
 -- The values of a view's members, read one after another: what one turn of the reading adds.
-use Prim.Native.Nat.{ℕ, zero, suc, _+_, _-_, _*_, _≤_, _<_}
+use Prim.Native.Nat.{ℕ, zero, suc, _+_, _-_, _*_, _/_, _%_, _≤_, _<_}
 use mathlib.Core.Bool.{Bool, true, false, true≢false, cond}
 use mathlib.Core.Path.{_≡_, refl, sym, ap, _∙_, subst}
 use mathlib.Core.List.{List}
 use mathlib.Core.Logic.{_≢_, ⊎-elim}
+use native.Mathlib.Decide.{ℕ-discrete}
 use native.Mathlib.Nat.{eq-or-lt-of-le}
 use native.Mathlib.Numerals.{add-one}
 use native.Mathlib.Omega.{arith}
-use lib.ListN.{length, getD, set, length-set}
-use lib.Seq.{getD-set-same, getD-set-other}
+use lib.ListN.{length, getD, set, replicate, length-set}
+use lib.Seq.{getD-set-same, getD-set-other, ext-getD}
 use Rattle.sets.specs.Sets.{has, tick, count}
 use Rattle.formats.specs.Records.{wordAt}
 use Rattle.formats.specs.declared.Views.{Views}
@@ -128,3 +129,28 @@ module _ (s : List ℕ) (at : ℕ) (v : Views) (p w : ℕ) (r : Room v p) where
 
   pub value-other : (i j : ℕ) → 1 ≤ i → 1 ≤ j → j ≤ 32 → i ≢ p → valueBy (withView s at v p w) i j ≡ valueBy v i j
   value-other i j l a b n = values-others s (at + 7) p w (v .values) i j l (r .low) a b n
+
+-- Two lists of one length are one if they hold the same: by their places counted from 1,
+pub by-place : (l m : List ℕ) (k : ℕ) → length l ≡ k → length m ≡ k → ((i : ℕ) → 1 ≤ i → i ≤ k → getD l (i - 1) 0 ≡ getD m (i - 1) 0) → l ≡ m
+by-place l m k a b h =
+    ext-getD 0 l m (a ∙ sym b)
+    (λ i e. let z : suc i - 1 ≡ i = omega arith in
+    subst (λ (y : ℕ). getD l y 0 ≡ getD m y 0) z (h (suc i) (omega arith) (omega arith)))
+
+-- and the values by row and column
+pub by-cell : (l m : List ℕ) → length l ≡ 1024 → length m ≡ 1024
+    → ((j k : ℕ) → 1 ≤ j → j ≤ 32 → 1 ≤ k → k ≤ 32 → getD l (cell j k) 0 ≡ getD m (cell j k) 0) → l ≡ m
+by-cell l m a b h =
+    ext-getD 0 l m (a ∙ sym b)
+    (λ c e. let z : cell (c / 32 + 1) (c % 32 + 1) ≡ c = omega arith in
+    subst (λ (y : ℕ). getD l y 0 ≡ getD m y 0) z (h (c / 32 + 1) (c % 32 + 1) (omega arith) (omega arith) (omega arith) (omega arith)))
+
+-- An array of zeros.
+pub zeros : (k i : ℕ) → _≡_ {A = ℕ} (getD (replicate k 0) i 0) 0
+zeros zero i = refl
+zeros (suc k) zero = refl
+zeros (suc k) (suc i) = zeros k i
+
+-- process p or another
+pub by-one : (P : ℕ → Type 0) (p j : ℕ) → P p → (j ≢ p → P j) → P j
+by-one P p j a b = elim (ℕ-discrete j p) [ yes e ↦ subst P (sym e) a | no n ↦ b n ]
