@@ -8,5 +8,6 @@ pub mod Walked
 pub mod Ranges
 pub mod WholeFile
 pub mod Bytes
+pub mod Typed
 pub mod RoundTrip
 pub mod Examples
