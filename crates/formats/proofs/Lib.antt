@@ -1,4 +1,5 @@
--- Laws of files, which the crates above cite, and examples.
+-- The examples, and laws of files, which the crates above cite.
+pub mod Examples
 pub mod Tests
 pub mod Values
 pub mod Reading
@@ -10,4 +11,3 @@ pub mod WholeFile
 pub mod Bytes
 pub mod Typed
 pub mod RoundTrip
-pub mod Examples
