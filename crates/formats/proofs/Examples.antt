@@ -16,7 +16,7 @@ refused-file = refl
 
 pub byte-for-byte : ByteForByte
 unfolding fileOf viewBytes joined readOf readFrom headerOf viewAt markAt markOf testedAt valuesRead has plus first every count within size
-byte-for-byte = record { read = refl; written = refl }
+byte-for-byte = record { read = refl; written = refl; past = refl }
 
 pub orders-read : OrdersRead
 unfolding orderAt markAt markOf

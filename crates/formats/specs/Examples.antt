@@ -12,7 +12,7 @@ use Rattle.formats.specs.declared.Order.{Order}
 use Rattle.formats.specs.declared.Views.{Views}
 use Rattle.formats.specs.declared.ViewsRead.{ViewsRead}
 use Rattle.formats.specs.Numbers.{numberOf}
-use Rattle.formats.specs.Records.{wordBytes, orderAt}
+use Rattle.formats.specs.Records.{wordAt, wordBytes, orderAt}
 use Rattle.formats.specs.ViewFile.{fileOf, readOf}
 
 -- the records: `MN` n, and `VW` p with the set w, before its values
@@ -44,6 +44,9 @@ examples =
     ∷ of (ascii "M") 11 0
     ∷ of (0 ∷ []) 11 0
     ∷ of (ascii "NM" ++ 2 ∷ []) 9 0
+    ∷ of (ascii "EN") 9 0
+    ∷ of (ascii "ST") 9 0
+    ∷ of (ascii "CR") 9 0
     ∷ of (ascii "VW") 9 0
     ∷ of (ascii "MN") 11 0
     ∷ of (MN 0) 8 0
@@ -56,6 +59,8 @@ examples =
     ∷ of (two ++ ascii "V") 11 3
     ∷ of (two ++ ascii "MN") 12 3
     ∷ of (two ++ ascii "EN") 10 3
+    ∷ of (two ++ ascii "ST") 10 3
+    ∷ of (two ++ ascii "CR") 10 3
     ∷ of (two ++ ascii "VM") 10 3
     ∷ of (two ++ ascii "VW") 11 3
     -- the fixed bytes cut, before 14 and before 15
@@ -105,10 +110,12 @@ RefusedFile =
     readOf (two ++ both ++ both)
     ≡ record { answer = SecondView; place = 18; views = record { n = 0; own = 0; seen = replicate 32 0; values = replicate 1024 0 } }
 
--- A file byte for byte, and its views: of 32 processes 9 saw 1, 9, 17 and 32, a bit in each of the set's bytes, and 32 saw itself.
+-- A file byte for byte, and its views: of 32 processes 9 saw 1, 9, 17 and 32, a bit in each of the set's bytes; 1 and 32 saw themselves.
 abbrev pub bytes : List ℕ
 bytes =
     77 ∷ 78 ∷ 32
+    ∷ 86 ∷ 87 ∷ 1 ∷ 1 ∷ 0 ∷ 0 ∷ 0
+    ∷ 1 ∷ 2 ∷ 3 ∷ 4
     ∷ 86 ∷ 87 ∷ 9 ∷ 1 ∷ 1 ∷ 1 ∷ 128
     ∷ 1 ∷ 2 ∷ 3 ∷ 4
     ∷ 255 ∷ 255 ∷ 255 ∷ 255
@@ -122,10 +129,10 @@ abbrev pub carried : Views
 carried =
     record {
       n = 32;
-      own = 2147483904;
-      seen = replicate 8 0 ++ 2147549441 ∷ replicate 22 0 ++ 2147483648 ∷ [];
+      own = 2147483905;
+      seen = 1 ∷ replicate 7 0 ++ 2147549441 ∷ replicate 22 0 ++ 2147483648 ∷ [];
       values =
-          replicate 256 0
+          67305985 ∷ replicate 255 0
           ++ 67305985 ∷ replicate 7 0
           ++ 4294967295 ∷ replicate 7 0
           ++ 0 ∷ replicate 14 0
@@ -134,8 +141,10 @@ carried =
     }
 
 pub record ByteForByte : Type 0 where
-  pub read : readOf bytes ≡ record { answer = Whole; place = 37; views = carried }
+  pub read : readOf bytes ≡ record { answer = Whole; place = 48; views = carried }
   pub written : fileOf carried ≡ bytes
+  -- past the end of a file there are zeros
+  pub past : wordAt bytes 48 ≡ 0
 
 -- Records of an order file after its header, on both sides of 10, 11 and 12; the value's four bytes differ.
 pub record OrdersRead : Type 0 where
