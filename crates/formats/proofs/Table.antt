@@ -21,7 +21,7 @@ use Rattle.formats.specs.Numbers.{numberOf}
 use Rattle.formats.specs.Records.{byteAt, wordAt, isMark, markOf, markAt, fits, headerBy, headerOf, viewBy, viewAt}
 use Rattle.formats.specs.ViewFile.{valuesFit, testedBy, testedAt}
 use Rattle.sets.specs.Lines.{when, firstThat}
-use Rattle.formats.specs.Table.{headerLines, processAt, setAt, after, viewed, recordLines}
+use Rattle.formats.specs.Table.{headerLines, processAt, setAt, endAt, viewed, recordLines}
 
 -- a failed order is the other order
 not-leb : (a b c : ℕ) → a ≡ c → not (leb a b) ≡ ltb b c
@@ -182,7 +182,7 @@ record-number s at n own before h e f =
     let b = isMark 77 78 (byteAt s at) (byteAt s (at + 1)) in
     let c = not (isMark 86 87 (byteAt s at) (byteAt s (at + 1))) in
     let d = ltb (length s) (at + 7) in
-    let g = ltb (length s) (after s at) in
+    let g = ltb (length s) (endAt s at) in
     ap recordNumber (tested-at s at n own h)
     ∙ number-chain a b c d (not (leb 1 p && leb p n)) (has own p) (not (within w (first n))) g p w
     ∙ ap₂ (λ (n : ℕ) (o : Bool). firstThat (when 11 a ∷ when 12 b ∷ when 10 c ∷ when 11 d ∷ when 14 (not (leb 1 p && leb p n)) ∷ when 15 o

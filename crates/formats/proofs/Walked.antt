@@ -19,7 +19,7 @@ use Rattle.formats.specs.declared.Views.{Views}
 use Rattle.formats.specs.Records.{byteAt, wordAt, headerOf}
 use Rattle.formats.specs.Views.{seenBy, valueBy, cell, noneOf}
 use Rattle.formats.specs.ViewFile.{testedAt, withView}
-use Rattle.formats.specs.Table.{processAt, setAt, valueAt, after, viewed, recordLines, Reached, Carried}
+use Rattle.formats.specs.Table.{processAt, setAt, valueAt, endAt, viewed, recordLines, Reached, Carried}
 use Rattle.formats.specs.Table as table
 use Rattle.formats.proofs.Reading.{Passed, passed, opened}
 use Rattle.formats.proofs.Values.{values-length, Room, seen-here, seen-other, value-in, value-out, value-other, by-place, by-cell, zeros, by-one}
@@ -142,15 +142,15 @@ module _ {s : List ℕ} {at : ℕ} {before : List ℕ} {v : Views} (r : Walked s
       record-number s at (v .n) (v .own) before l (c .n) (c .own (processAt s at))
 
 -- the place after a view
-after-same : (s : List ℕ) (at w : ℕ) → w ≡ setAt s at → at + (7 + 4 * size w) ≡ after s at
-after-same s at w e = ap (λ (x : ℕ). at + (7 + 4 * size x)) e ∙ omega arith
+end-same : (s : List ℕ) (at w : ℕ) → w ≡ setAt s at → at + (7 + 4 * size w) ≡ endAt s at
+end-same s at w e = ap (λ (x : ℕ). at + (7 + 4 * size x)) e ∙ omega arith
 
 pub walked-reached : {s : List ℕ} {at : ℕ} {before : List ℕ} {v : Views} → Walked s at before v → Reached s at before
 walked-reached {s} (start e) = table.start (sym (header-number s) ∙ ap headerNumber e)
 walked-reached {s} (more {at = at} {before = before} {v = v} {p = p} {w = w} r e) =
     let t = passed s at (v .n) (v .own) p w e in
     let l : at < length s = omega (arith, t .whole) in
-    subst (λ (y : ℕ). Reached s y (at ∷ before)) (sym (after-same s at w (t .set)))
+    subst (λ (y : ℕ). Reached s y (at ∷ before)) (sym (end-same s at w (t .set)))
     (table.more (walked-reached r) l (sym (walked-number r l) ∙ ap recordNumber e))
 
 -- where no line applies there is a header, or a view
@@ -159,12 +159,12 @@ header-by s (Header.Of n) e z = (noneOf n, start e)
 header-by s (Header.Fault a) e z = absurd (header-refused s a e z)
 
 record-by : {s : List ℕ} {at : ℕ} {before : List ℕ} {v : Views} → Walked s at before v → at < length s
-    → (x : ViewRecord) → testedAt s at (v .n) (v .own) ≡ x → recordNumber x ≡ 0 → (u : Views) × Walked s (after s at) (at ∷ before) u
+    → (x : ViewRecord) → testedAt s at (v .n) (v .own) ≡ x → recordNumber x ≡ 0 → (u : Views) × Walked s (endAt s at) (at ∷ before) u
 record-by {s} {at} {before} {v} r l End e z = absurd (not-end s at (v .n) (v .own) l e)
 record-by {s} {at} {before} {v} r l (Fault a) e z = absurd (record-refused s at (v .n) (v .own) a l e z)
 record-by {s} {at} {before} {v} r l (View p w) e z =
     let u : Views = withView s at v p w in
-    (u, subst (λ (y : ℕ). Walked s y (at ∷ before) u) (after-same s at w (passed s at (v .n) (v .own) p w e .set)) (more r e))
+    (u, subst (λ (y : ℕ). Walked s y (at ∷ before) u) (end-same s at w (passed s at (v .n) (v .own) p w e .set)) (more r e))
 
 pub reached-walked : {s : List ℕ} {at : ℕ} {before : List ℕ} → Reached s at before → (v : Views) × Walked s at before v
 reached-walked {s} (table.start e) = header-by s (headerOf s) refl (header-number s ∙ e)

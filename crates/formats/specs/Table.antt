@@ -36,8 +36,8 @@ setAt s at = wordAt s (at + 3)
 abbrev pub valueAt : List ℕ → ℕ → ℕ → ℕ
 valueAt s at j = wordAt s (at + 7 + 4 * count (has (setAt s at)) (j - 1))
 
-abbrev pub after : List ℕ → ℕ → ℕ
-after s at = at + 7 + 4 * size (setAt s at)
+abbrev pub endAt : List ℕ → ℕ → ℕ
+endAt s at = at + 7 + 4 * size (setAt s at)
 
 -- one of the records at these places is of process p
 abbrev pub viewed : List ℕ → ℕ → List ℕ → Bool
@@ -54,14 +54,14 @@ recordLines s at before =
     ∷ when 14 (not (leb 1 (processAt s at) && leb (processAt s at) (byteAt s 2)))
     ∷ when 15 (viewed s (processAt s at) before)
     ∷ when 16 (not (within (setAt s at) (first (byteAt s 2))))
-    ∷ when 11 (ltb (length s) (after s at))
+    ∷ when 11 (ltb (length s) (endAt s at))
     ∷ []
 
 -- the places that reading comes to, each with those of the records before it, the last of these first
 pub data Reached (s : List ℕ) : ℕ → List ℕ → Type 0 where
   start : firstThat (headerLines s) ≡ 0 → Reached s 3 []
   more : {at : ℕ} {before : List ℕ} → Reached s at before → at < length s → firstThat (recordLines s at before) ≡ 0
-      → Reached s (after s at) (at ∷ before)
+      → Reached s (endAt s at) (at ∷ before)
 
 -- number k applies at a place, and is the first that does
 abbrev pub Refusal : List ℕ → ℕ → ℕ → Type 0
