@@ -24,7 +24,7 @@ use Rattle.sets.specs.Lines.{when, firstThat}
 use Rattle.formats.specs.Table.{headerLines, processAt, setAt, endAt, viewed, recordLines}
 
 -- a failed order is the other order
-not-leb : (a b c : ℕ) → a ≡ c → not (leb a b) ≡ ltb b c
+pub not-leb : (a b c : ℕ) → a ≡ c → not (leb a b) ≡ ltb b c
 not-leb a b c e =
     ⊎-elim
     (λ t. ap not t ∙ sym (le-ltb b c (omega (arith, leb-true a b t))))

@@ -23,7 +23,7 @@ use Rattle.replays.specs.Replays.{replayOf, callsBy, callsOf}
 use Rattle.replays.specs.OrderFile.{callBytes, orderBytes, orderFile, FileCall, FileCalls}
 use Rattle.replays.specs.Table.{marked, Holds, start, enter, step, crash}
 use Rattle.replays.specs.Promises.{OrderFileBytes, EveryFileOfCalls, WholeFileOfCalls}
-use Rattle.replays.proofs.Orders.{mark-bytes, enter-long, step-long, crash-long}
+use Rattle.replays.proofs.Orders.{letter, mark-bytes, enter-long, step-long, crash-long}
 use Rattle.replays.proofs.WholeFile.{header-whole, whole-header, zero-read, whole-place}
 use Rattle.replays.proofs.Promises.{every-file-holds}
 
@@ -93,7 +93,7 @@ four-more s b at h =
 -- One record more: its mark and its process, and the value of an enter.
 module _ (s : List ℕ) (b : Bytes s) (at : ℕ) where
   short-record : (t : String) → marked s at t ≡ true → at + 3 ≤ length s
-      → take (at + 3) s ≡ take at s ++ byteAt (ascii t) 0 ∷ byteAt (ascii t) 1 ∷ byteAt s (at + 2) ∷ []
+      → take (at + 3) s ≡ take at s ++ letter t 0 ∷ letter t 1 ∷ byteAt s (at + 2) ∷ []
   short-record t e h =
       let m = mark-bytes s at t e in
       three-more s at h ∙ ap₂ (λ (x y : ℕ). take at s ++ x ∷ y ∷ byteAt s (at + 2) ∷ []) (m .0) (m .1)

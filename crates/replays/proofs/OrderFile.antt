@@ -1,18 +1,16 @@
 -- Every list of calls is the replay of a file: its bytes read back as the same calls.
 use Prim.Native.Nat.{ℕ, zero, suc, _+_, _≤_}
 use Prim.Native.String.{String}
-use mathlib.Core.Bool.{true, _&&_}
+use mathlib.Core.Bool.{true}
 use mathlib.Core.Path.{_≡_, refl, sym, ap, ap₂, _∙_, subst}
 use mathlib.Core.List.{List, [], _∷_, _++_, append-assoc}
 use native.Mathlib.Nat.{add-zero}
 use native.Mathlib.Omega.{arith}
-use lib.Dec.{eqb}
 use lib.ListN.{length, length-append}
 use Rattle.history.specs.Runs.{Call, enters, steps, crashes}
-use Rattle.text.specs.Ascii.{ascii}
 use Rattle.formats.specs.declared.FileAnswer.the-variants.{Whole}
 use Rattle.formats.specs.declared.Order.{Order}
-use Rattle.formats.specs.Records.{byteAt, orderAt}
+use Rattle.formats.specs.Records.{byteAt, reads, orderAt}
 use Rattle.formats.proofs.Bytes.{word-back, byte-past, word-past}
 use Rattle.formats.proofs.Table.{header-read}
 use Rattle.replays.specs.Replays.{Orders, then, orderThen, ordersFrom, replayed, replayBy, replayOf}
@@ -38,7 +36,7 @@ module _ (a t : List ℕ) where
 
   -- the mark of a call's bytes
   marks : (l : List ℕ) (t : String) → marked l 0 t ≡ true → marked (a ++ l) (length a) t ≡ true
-  marks l t e = ap₂ (λ (x y : ℕ). eqb x (byteAt (ascii t) 0) && eqb y (byteAt (ascii t) 1)) (at-0 l) (byte-past a l 1) ∙ e
+  marks l t e = ap₂ (reads t) (at-0 l) (byte-past a l 1) ∙ e
 
   stands : (c : Call) → FileCall c → orderAt (a ++ (callBytes c ++ t)) (length a) ≡ orderOf c
   stands (enters p v) w =
@@ -61,16 +59,16 @@ follows s at k (crashes p) = refl
 abbrev whole : List ℕ → List Call → Orders
 whole s cs = record { answer = Whole; place = length s; calls = cs }
 
-reads : (cs : List Call) (a : List ℕ) (k : ℕ) → FileCalls cs → length cs ≤ k → ordersFrom k (a ++ orderBytes cs) (length a) ≡ whole (a ++ orderBytes cs) cs
+read-back : (cs : List Call) (a : List ℕ) (k : ℕ) → FileCalls cs → length cs ≤ k → ordersFrom k (a ++ orderBytes cs) (length a) ≡ whole (a ++ orderBytes cs) cs
 unfolding orderBytes
-reads [] a k w h = from-end k (a ++ []) (length a) (omega (arith, length-append a []))
-reads (c ∷ cs) a zero w h = absurd (omega arith)
-reads (c ∷ cs) a (suc k) w h =
+read-back [] a k w h = from-end k (a ++ []) (length a) (omega (arith, length-append a []))
+read-back (c ∷ cs) a zero w h = absurd (omega arith)
+read-back (c ∷ cs) a (suc k) w h =
     let s : List ℕ = a ++ (callBytes c ++ orderBytes cs) in
     let e : (a ++ callBytes c) ++ orderBytes cs ≡ s = append-assoc a (callBytes c) (orderBytes cs) in
     let next : ordersFrom k s (length a + length (callBytes c)) ≡ whole s cs
     = subst (λ (n : ℕ). ordersFrom k s n ≡ whole s cs) (length-append a (callBytes c))
-    (subst (λ (l : List ℕ). ordersFrom k l (length (a ++ callBytes c)) ≡ whole l cs) e (reads cs (a ++ callBytes c) k (w .1) (omega arith))) in
+    (subst (λ (l : List ℕ). ordersFrom k l (length (a ++ callBytes c)) ≡ whole l cs) e (read-back cs (a ++ callBytes c) k (w .1) (omega arith))) in
     from-order (suc k) k s (length a) (orderOf c) refl (stands a (orderBytes cs) c (w .0))
     ∙ follows s (length a) k c
     ∙ ap (then c) next
@@ -79,4 +77,4 @@ pub every-list-replays : EveryListReplays
 unfolding replayOf
 every-list-replays n low high cs w budget h =
     ap (replayBy (orderFile n cs) budget) (header-read n (orderBytes cs) low high)
-    ∙ ap (replayed n) (reads cs (77 ∷ 78 ∷ n ∷ []) budget w h)
+    ∙ ap (replayed n) (read-back cs (77 ∷ 78 ∷ n ∷ []) budget w h)

@@ -1,38 +1,41 @@
 -- The order at one place, by the bytes there: each number is given exactly when its line of the table applies, and a call is read exactly where its
 -- record stands whole.
 use Prim.Native.Nat.{ℕ, _+_, _≤_, _<_}
-use Prim.Native.String.{String}
-use mathlib.Core.Bool.{Bool, true, false, not, _&&_, _||_, cond, and-eq-true-iff}
+use Prim.Native.String.{String, charAt}
+use Prim.Native.Char.{code}
+use mathlib.Core.Bool.{Bool, true, false, not, _||_, cond, and-eq-true-iff}
 use mathlib.Core.Path.{_≡_, refl, sym, ap, ap₂, _∙_, subst}
-use mathlib.Core.Logic.{_≢_, ⊎-elim}
+use mathlib.Core.Logic.{_≢_}
 use mathlib.Core.List.{List, [], _∷_}
 use native.Mathlib.Omega.{arith}
-use lib.Dec.{leb, ltb, eqb}
+use lib.Dec.{ltb, eqb}
 use lib.ListN.{length}
-use borrow.Author.Tests.{leb-true, leb-false, ltb-false, eqb-true, le-leb, lt-leb, lt-ltb, le-ltb, ne-eqb}
-use Rattle.sets.proofs.Laws.{either}
-use Rattle.text.specs.Ascii.{ascii}
+use borrow.Author.Tests.{ltb-false, eqb-true, le-leb, lt-leb, ne-eqb}
 use Rattle.formats.specs.declared.FileAnswer.the-variants.{OtherMark, MarkCut, BodyCut, HeaderAgain}
 use Rattle.formats.specs.declared.Mark.{Mark}
 use Rattle.formats.specs.declared.Order.{Order}
 use Rattle.formats.specs.Numbers.{numberOf}
-use Rattle.formats.specs.Records.{byteAt, wordAt, markOf, markAt, fits, orderBy, orderAt}
+use Rattle.formats.specs.Records.{byteAt, wordAt, reads, markOf, markAt, fits, orderBy, orderAt}
+use Rattle.formats.proofs.Table.{not-leb}
 use Rattle.sets.specs.Lines.{when, firstThat}
 use Rattle.replays.specs.Table.{marked, orderLines, Stands}
 
 -- Marks: the two bytes of one, and what they say of another.
-pub mark-bytes : (s : List ℕ) (at : ℕ) (t : String) → marked s at t ≡ true
-    → (byteAt s at ≡ byteAt (ascii t) 0) × (byteAt s (at + 1) ≡ byteAt (ascii t) 1)
-mark-bytes s at t e =
-    let b = and-eq-true-iff (eqb (byteAt s at) (byteAt (ascii t) 0)) (eqb (byteAt s (at + 1)) (byteAt (ascii t) 1)) .0 e in
-    (eqb-true (byteAt s at) (byteAt (ascii t) 0) (b .0), eqb-true (byteAt s (at + 1)) (byteAt (ascii t) 1) (b .1))
+abbrev pub letter : String → ℕ → ℕ
+letter t i = code (charAt t i)
 
-mark-other : (s : List ℕ) (at : ℕ) (t u : String) → marked s at t ≡ true → marked s at u ≡ marked (ascii t) 0 u
+pub mark-bytes : (s : List ℕ) (at : ℕ) (t : String) → marked s at t ≡ true
+    → (byteAt s at ≡ letter t 0) × (byteAt s (at + 1) ≡ letter t 1)
+mark-bytes s at t e =
+    let b = and-eq-true-iff (eqb (byteAt s at) (letter t 0)) (eqb (byteAt s (at + 1)) (letter t 1)) .0 e in
+    (eqb-true (byteAt s at) (letter t 0) (b .0), eqb-true (byteAt s (at + 1)) (letter t 1) (b .1))
+
+mark-other : (s : List ℕ) (at : ℕ) (t u : String) → marked s at t ≡ true → marked s at u ≡ reads u (letter t 0) (letter t 1)
 mark-other s at t u e =
     let b = mark-bytes s at t e in
-    ap₂ (λ (x y : ℕ). eqb x (byteAt (ascii u) 0) && eqb y (byteAt (ascii u) 1)) (b .0) (b .1)
+    ap₂ (reads u) (b .0) (b .1)
 
-mark-at : (s : List ℕ) (at : ℕ) (t : String) → at + 2 ≤ length s → marked s at t ≡ true → markAt s at ≡ markOf (byteAt (ascii t) 0) (byteAt (ascii t) 1)
+mark-at : (s : List ℕ) (at : ℕ) (t : String) → at + 2 ≤ length s → marked s at t ≡ true → markAt s at ≡ markOf (letter t 0) (letter t 1)
 unfolding markAt
 mark-at s at t h e =
     let b = mark-bytes s at t e in
@@ -44,7 +47,7 @@ mark-at s at t h e =
 -- A record that has its mark and its body is read.
 module _ (s : List ℕ) (at : ℕ) where
   read-at : (t : String) (body : ℕ) (o : Order)
-      → orderBy s at (markOf (byteAt (ascii t) 0) (byteAt (ascii t) 1)) ≡ cond (fits s at body) o (Order.Fault BodyCut)
+      → orderBy s at (markOf (letter t 0) (letter t 1)) ≡ cond (fits s at body) o (Order.Fault BodyCut)
       → at + 2 + body ≤ length s → marked s at t ≡ true → orderAt s at ≡ o
   unfolding orderAt
   read-at t body o f h e =
@@ -72,7 +75,7 @@ no-line false false false true e = absurd (omega arith)
 no-line false false false false e = refl
 
 body-there : (s : List ℕ) (at : ℕ) (t : String) → Stands s at t
-    → cond (marked (ascii t) 0 "EN") (ltb (length s) (at + 7)) (ltb (length s) (at + 3)) ≡ false
+    → cond (reads "EN" (letter t 0) (letter t 1)) (ltb (length s) (at + 7)) (ltb (length s) (at + 3)) ≡ false
 body-there s at t r =
     ap (λ (b : Bool). cond b (ltb (length s) (at + 7)) (ltb (length s) (at + 3))) (sym (mark-other s at t "EN" (r .mark)))
     ∙ no-line (eqb (length s) (at + 1)) (marked s at "MN") (not (marked s at "EN" || marked s at "ST" || marked s at "CR"))
@@ -96,14 +99,6 @@ module _ (s : List ℕ) (at : ℕ) where
 
   pub crash-stands : Stands s at "CR" → orderAt s at ≡ Order.Crash (byteAt s (at + 2))
   crash-stands r = crash-at s at (crash-long r) (r .mark)
-
--- a failed order is the other order
-not-leb : (a b c : ℕ) → a ≡ c → not (leb a b) ≡ ltb b c
-not-leb a b c e =
-    ⊎-elim
-    (λ t. ap not t ∙ sym (le-ltb b c (omega (arith, leb-true a b t))))
-    (λ t. ap not t ∙ sym (lt-ltb b c (omega (arith, leb-false a b t))))
-    (either (leb a b))
 
 -- The order at a place where bytes are left, as a choice by tests.
 bodied : Bool → Order → Order

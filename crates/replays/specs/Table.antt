@@ -2,23 +2,22 @@
 -- are looked for. "The place is the offset of the record's mark, or the file's length when all was read."
 use Prim.Native.Nat.{ℕ, _+_, _≤_, _<_}
 use Prim.Native.String.{String}
-use mathlib.Core.Bool.{Bool, true, not, _&&_, _||_, cond}
+use mathlib.Core.Bool.{Bool, true, not, _||_, cond}
 use mathlib.Core.Path.{_≡_}
 use mathlib.Core.Logic.{_⊎_, _↔_, _≢_}
 use mathlib.Core.List.{List, [], _∷_, _++_}
 use lib.Dec.{ltb, eqb}
 use lib.ListN.{length}
 use Rattle.history.specs.Runs.{Call, enters, steps, crashes}
-use Rattle.text.specs.Ascii.{ascii}
 use Rattle.formats.specs.Numbers.{numberOf}
-use Rattle.formats.specs.Records.{byteAt, wordAt}
+use Rattle.formats.specs.Records.{byteAt, wordAt, reads}
 use Rattle.sets.specs.Lines.{Line, when, firstThat}
 use Rattle.formats.specs.Table.{headerLines}
 use Rattle.replays.specs.Replays.{replayOf, callsOf}
 
--- the mark at a place is this text of two letters
+-- the mark at a place
 abbrev pub marked : List ℕ → ℕ → String → Bool
-marked s at t = eqb (byteAt s at) (byteAt (ascii t) 0) && eqb (byteAt s (at + 1)) (byteAt (ascii t) 1)
+marked s at t = reads t (byteAt s at) (byteAt s (at + 1))
 
 -- a later record, at a place where bytes are left: `MN`; a mark other than `EN`, `ST` and `CR`; a body cut off
 abbrev pub orderLines : List ℕ → ℕ → List Line
