@@ -45,7 +45,7 @@ fn is_mark(a: u32, b: u32, x: u32, y: u32) -> bool
     x == a && y == b
 }
 
-// The mark that two bytes are.
+// The mark that two bytes are: MN, EN, ST, CR and VW, in ASCII.
 fn mark_of(x: u32, y: u32) -> Mark
     ensures { λ r. ⌜ r ≡ markOf x y ⌝ }
 {

@@ -1,99 +1,83 @@
--- The views of a file that is read are in range: each record that is read keeps them so.
-use Prim.Native.Nat.{ℕ, zero, suc, _+_, _-_, _*_, _^_, _≤_, _<_}
-use mathlib.Core.Bool.{true, false, true≢false, false≢true, and-eq-true-iff}
-use mathlib.Core.Path.{_≡_, refl, sym, ap, _∙_, subst}
-use mathlib.Core.Logic.{_≢_, ⊎-elim}
+-- The views of a file of bytes that is read are in range.
+use Prim.Native.Nat.{ℕ, _+_, _-_, _*_, _^_, _≤_, _<_}
+use mathlib.Core.Bool.{true, false, true≢false, and-eq-true-iff}
+use mathlib.Core.Path.{_≡_, sym, ap, _∙_}
+use mathlib.Core.Logic.{⊎-elim}
 use mathlib.Core.List.{List}
-use native.Mathlib.Decide.{ℕ-discrete}
 use native.Mathlib.Omega.{arith}
 use lib.Dec.{leb}
-use lib.ListN.{getD, set, replicate, length-replicate, length-set}
 use borrow.Author.Tests.{leb-true}
-use Rattle.sets.specs.Sets.{has, plus, first, known, count}
-use Rattle.sets.proofs.Laws.{either, has-zero, has-plus-same, has-plus-other, has-plus-cases, plus-below, has-first, within-true}
+use Rattle.sets.specs.Sets.{has, first, known, count}
+use Rattle.sets.proofs.Laws.{either, has-zero, has-first, within-true}
 use Rattle.formats.specs.declared.Views.{Views}
 use Rattle.formats.specs.Records.{wordAt}
-use Rattle.formats.specs.Views.{seenBy, valueBy, cell, noneOf, InRange}
-use Rattle.formats.specs.ViewFile.{withView}
+use Rattle.formats.specs.Views.{owns, seenBy, valueBy, InRange}
+use Rattle.formats.specs.Table.{processAt, setAt, Carried}
 use Rattle.formats.specs.Promises.{Bytes}
-use Rattle.formats.proofs.Reading.{Passed}
-use Rattle.formats.proofs.Values.{values-length, Room, seen-here, seen-other, value-in, value-out, value-other}
+use Rattle.formats.proofs.Walked.{Walked, Named, in-viewed, walked-some, walked-most, walked-carried, walked-named}
 
 pub word-below : (s : List ℕ) → Bytes s → (at : ℕ) → wordAt s at < 2 ^ 32
 word-below s b at = omega (arith, b at, b (at + 1), b (at + 2), b (at + 3))
 
-pub zeros : (k i : ℕ) → _≡_ {A = ℕ} (getD (replicate k 0) i 0) 0
-zeros zero i = refl
-zeros (suc k) zero = refl
-zeros (suc k) (suc i) = zeros k i
+module _ (s : List ℕ) (at : ℕ) (before : List ℕ) (v : Views) (bytes : Bytes s) (r : Walked s at before v) where
+  c : Carried s before v
+  c = walked-carried r
 
--- to begin with there are no views
-pub none-in-range : (n : ℕ) → 1 ≤ n → n ≤ 32 → InRange (noneOf n)
-none-in-range n a b =
-    record {
-      some = a;
-      most = b;
-      seats = length-replicate {A = ℕ} 32 0;
-      cells = length-replicate {A = ℕ} 1024 0;
-      own-fits = omega arith;
-      seen-fits = λ i l h. omega (arith, zeros 32 (i - 1));
-      value-fits = λ i j l h m k. omega (arith, zeros 1024 (cell i j));
-      owner = λ i e. absurd (false≢true (sym (has-zero i) ∙ e));
-      member = λ i j l h e. absurd (false≢true (sym (has-zero j) ∙ ap (λ (w : ℕ). has w j) (sym (zeros 32 (i - 1))) ∙ e));
-      no-view = λ i l h e. zeros 32 (i - 1);
-      no-member = λ i j l h m k e. zeros 1024 (cell i j);
-    }
+  -- the record of a process that has a view
+  record Of (i : ℕ) : Type 0 where
+    place : ℕ
+    set : seenBy v i ≡ setAt s place
+    value : (j : ℕ) → has (seenBy v i) j ≡ true → valueBy v i j ≡ wordAt s (place + 7 + 4 * count (has (setAt s place)) (j - 1))
+    named : Named s (v .n) place
+    process : processAt s place ≡ i
 
--- process p or another
-by : {p : ℕ} (P : ℕ → Type 0) (i : ℕ) → P p → (i ≢ p → P i) → P i
-by {p} P i a b = elim (ℕ-discrete i p) [ yes e ↦ subst P (sym e) a | no n ↦ b n ]
-
--- One record more.
-module _ (s : List ℕ) (at : ℕ) (v : Views) (p w : ℕ) (bytes : Bytes s) (r : InRange v) (t : Passed s at (v .n) (v .own) p w) where
-  room : Room v p
-  room = record { seats = r .seats; cells = r .cells; low = t .low; high = omega (arith, t .high, r .most) }
-
-  -- a process that has had no view has no values
-  out : (j : ℕ) → 1 ≤ j → j ≤ 32 → has w j ≡ false → valueBy (withView s at v p w) p j ≡ 0
-  out j a b h =
-      let none : seenBy v p ≡ 0 = r .no-view p (t .low) (room .high) (t .new) in
-      value-out s at v p w room j a h ∙ r .no-member p j (t .low) (room .high) a b (ap (λ (x : ℕ). has x j) none ∙ has-zero j)
-
-  pub next-in-range : InRange (withView s at v p w)
-  next-in-range =
-      let next : Views = withView s at v p w in
-      let w-fits : w < 2 ^ 32 = subst (λ (x : ℕ). x < 2 ^ 32) (sym (t .set)) (word-below s bytes (at + 3)) in
+  recordOf : (i : ℕ) → owns v i ≡ true → Of i
+  recordOf i e =
+      let q = in-viewed s i before (sym (c .own i) ∙ e) in
+      let set : seenBy v i ≡ setAt s (q .0) = ap (seenBy v) (sym (q .2)) ∙ c .seen (q .0) (q .1) in
       record {
-        some = r .some;
-        most = r .most;
-        seats = length-set (v .seen) (p - 1) w ∙ r .seats;
-        cells = values-length s (at + 7) p w (v .values) 32 ∙ r .cells;
-        own-fits = plus-below (v .own) p (r .own-fits);
-        seen-fits = λ i l h.
-            by (λ i. seenBy next i < 2 ^ 32) i
-            (subst (λ (x : ℕ). x < 2 ^ 32) (sym (seen-here s at v p w room)) w-fits)
-            (λ n. subst (λ (x : ℕ). x < 2 ^ 32) (sym (seen-other s at v p w room i l n)) (r .seen-fits i l h));
-        value-fits = λ i j l h m k.
-            by (λ i. valueBy next i j < 2 ^ 32) i
-            (⊎-elim
-            (λ e. subst (λ (x : ℕ). x < 2 ^ 32) (sym (value-in s at v p w room j m k e)) (word-below s bytes (at + 7 + 4 * count (has w) (j - 1))))
-            (λ e. subst (λ (x : ℕ). x < 2 ^ 32) (sym (out j m k e)) (omega arith))
-            (either (has w j)))
-            (λ n. subst (λ (x : ℕ). x < 2 ^ 32) (sym (value-other s at v p w room i j l m k n)) (r .value-fits i j l h m k));
-        owner = λ i e. ⊎-elim (λ q. subst (λ (x : ℕ). x ≤ v .n) q (t .high)) (λ q. r .owner i q) (has-plus-cases (v .own) p i e);
-        member = λ i j l h.
-            by (λ i. has (seenBy next i) j ≡ true → j ≤ v .n) i
-            (λ e. let h : has w j ≡ true = ap (λ (x : ℕ). has x j) (sym (seen-here s at v p w room)) ∙ e in
-            let q : has (first (v .n)) j ≡ true = within-true w (first (v .n)) (t .inside) j h in
+        place = q .0;
+        set = set;
+        value = λ j h.
+            ap (λ (x : ℕ). valueBy v x j) (sym (q .2)) ∙ c .value (q .0) j (q .1) (ap (λ (x : ℕ). has x j) (sym set) ∙ h);
+        named = walked-named r (q .0) (q .1);
+        process = q .2;
+      }
+
+  -- a process with a view, or one that names nobody
+  split : (P : Type 0) (i : ℕ) → 1 ≤ i → i ≤ 32 → (Of i → P) → (seenBy v i ≡ 0 → P) → P
+  split P i a b f g = ⊎-elim (λ e. f (recordOf i e)) (λ e. g (c .no-view i a b e)) (either (owns v i))
+
+  nobody : (i j : ℕ) → seenBy v i ≡ 0 → has (seenBy v i) j ≡ false
+  nobody i j e = ap (λ (x : ℕ). has x j) e ∙ has-zero j
+
+  pub walked-in-range : InRange v
+  walked-in-range =
+      record {
+        some = walked-some r;
+        most = walked-most r;
+        seats = c .seats;
+        cells = c .cells;
+        own-fits = c .own-fits;
+        seen-fits = λ i a b.
+            split (seenBy v i < 2 ^ 32) i a b
+            (λ o. omega (arith, o .set, word-below s bytes (o .place + 3)))
+            (λ e. omega arith);
+        value-fits = λ i j a b k l.
+            ⊎-elim
+            (λ h. split (valueBy v i j < 2 ^ 32) i a b
+            (λ o. omega (arith, o .value j h, word-below s bytes (o .place + 7 + 4 * count (has (setAt s (o .place))) (j - 1))))
+            (λ e. absurd (true≢false (sym h ∙ nobody i j e))))
+            (λ h. omega (arith, c .no-member i j a b k l h))
+            (either (has (seenBy v i) j));
+        owner = λ i e. let o = recordOf i e in omega (arith, o .process, o .named .process);
+        member = λ i j a b h.
+            split (j ≤ v .n) i a b
+            (λ o.
+            let q : has (first (v .n)) j ≡ true
+            = within-true (setAt s (o .place)) (first (v .n)) (o .named .inside) j (ap (λ (x : ℕ). has x j) (sym (o .set)) ∙ h) in
             leb-true j (v .n) (and-eq-true-iff (known j) (leb j (v .n)) .0 (sym (has-first (v .n) j) ∙ q) .1))
-            (λ n e. r .member i j l h (ap (λ (x : ℕ). has x j) (sym (seen-other s at v p w room i l n)) ∙ e));
-        no-view = λ i l h.
-            by (λ i. has (plus (v .own) p) i ≡ false → seenBy next i ≡ 0) i
-            (λ e. absurd (true≢false (sym (has-plus-same (v .own) p (t .low) (omega (arith, t .high, r .most))) ∙ e)))
-            (λ n e. seen-other s at v p w room i l n ∙ r .no-view i l h (sym (has-plus-other (v .own) p i (λ q. n (sym q))) ∙ e));
-        no-member = λ i j l h m k.
-            by (λ i. has (seenBy next i) j ≡ false → valueBy next i j ≡ 0) i
-            (λ e. out j m k (ap (λ (x : ℕ). has x j) (sym (seen-here s at v p w room)) ∙ e))
-            (λ n e. value-other s at v p w room i j l m k n
-            ∙ r .no-member i j l h m k (ap (λ (x : ℕ). has x j) (sym (seen-other s at v p w room i l n)) ∙ e));
+            (λ e. absurd (true≢false (sym h ∙ nobody i j e)));
+        no-view = c .no-view;
+        no-member = c .no-member;
       }

@@ -4,11 +4,9 @@ use mathlib.Core.Bool.{Bool, true, false, _&&_, cond, and-false}
 use mathlib.Core.Path.{_≡_, refl, sym, ap, ap₂, _∙_, subst}
 use mathlib.Core.Logic.{_≢_, ⊎-elim}
 use mathlib.Core.List.{List, [], _∷_, _++_, append-assoc}
-use native.Mathlib.Decide.{ℕ-discrete}
 use native.Mathlib.Omega.{arith}
 use lib.Dec.{leb}
-use lib.ListN.{length, getD, length-append, length-replicate, length-set}
-use lib.Seq.{ext-getD}
+use lib.ListN.{length, length-append, length-replicate, length-set}
 use borrow.Author.Tests.{le-leb, lt-leb}
 use Rattle.sets.specs.Sets.{has, plus, first, within, count, size}
 use Rattle.sets.proofs.Laws.{either, has-known, has-zero, true-known, members-equal, has-plus-same, has-plus-other, plus-below, has-first, true-within}
@@ -20,9 +18,8 @@ use Rattle.text.specs.Parts.{joined}
 use Rattle.formats.specs.ViewFile.{valueBytes, viewBytes, fileOf, testedAt, withView, readWhole, readFrom, readBy, readOf}
 use Rattle.formats.specs.Promises.{Bytes, ReadsBack, WritesBytes}
 use Rattle.formats.proofs.Tests.{leb-same}
-use Rattle.formats.proofs.Values.{values-length, Room, seen-here, seen-other, value-in, value-out, value-other}
+use Rattle.formats.proofs.Values.{values-length, Room, seen-here, seen-other, value-in, value-out, value-other, by-place, by-cell, zeros, by-one}
 use Rattle.formats.proofs.Turns.{read-end, read-view}
-use Rattle.formats.proofs.Ranges.{zeros}
 use Rattle.formats.proofs.Table.{tested-view, header-read, at-end}
 use Rattle.formats.proofs.Bytes.{word-back, byte-past, word-past, values-bytes, value-stands}
 
@@ -54,21 +51,6 @@ upto-none v =
       value = λ j k a b c d. zeros 1024 (cell j k) ∙ sym (ap (λ (e : Bool). cond e (valueBy v j k) 0) (lt-leb j 0 (omega arith)));
     }
 
--- a list's element by its place counted from 1
-by-place : (l m : List ℕ) (k : ℕ) → length l ≡ k → length m ≡ k → ((i : ℕ) → 1 ≤ i → i ≤ k → getD l (i - 1) 0 ≡ getD m (i - 1) 0) → l ≡ m
-by-place l m k a b h =
-    ext-getD 0 l m (a ∙ sym b)
-    (λ i e. let z : suc i - 1 ≡ i = omega arith in
-    subst (λ (y : ℕ). getD l y 0 ≡ getD m y 0) z (h (suc i) (omega arith) (omega arith)))
-
--- the values by row and column
-by-cell : (l m : List ℕ) → length l ≡ 1024 → length m ≡ 1024
-    → ((j k : ℕ) → 1 ≤ j → j ≤ 32 → 1 ≤ k → k ≤ 32 → getD l (cell j k) 0 ≡ getD m (cell j k) 0) → l ≡ m
-by-cell l m a b h =
-    ext-getD 0 l m (a ∙ sym b)
-    (λ c e. let z : cell (c / 32 + 1) (c % 32 + 1) ≡ c = omega arith in
-    subst (λ (y : ℕ). getD l y 0 ≡ getD m y 0) z (h (c / 32 + 1) (c % 32 + 1) (omega arith) (omega arith) (omega arith) (omega arith)))
-
 upto-all : (v u : Views) → InRange v → Upto v 32 u → u ≡ v
 upto-all v u r t =
     let own : u .own ≡ v .own
@@ -88,9 +70,6 @@ upto-all v u r t =
 -- Process i + 1 or another: for another the tests "up to i" and "up to i + 1" say the same.
 other-test : (i j : ℕ) → j ≢ suc i → leb j i ≡ leb j (suc i)
 other-test i j n = leb-same j i j (suc i) (λ h. omega arith) (λ h. omega arith)
-
-by-one : (P : ℕ → Type 0) (p j : ℕ) → P p → (j ≢ p → P j) → P j
-by-one P p j a b = elim (ℕ-discrete j p) [ yes e ↦ subst P (sym e) a | no n ↦ b n ]
 
 zero-either : (b : Bool) (x : ℕ) → x ≡ 0 → 0 ≡ cond b x 0
 zero-either true x e = sym e
@@ -261,13 +240,13 @@ reads-back v r =
     ∙ back v r 32 0 refl s pre (noneOf (v .n)) (length s) (upto-none v) refl (omega arith)
 
 -- What is written is bytes.
-bytes-none : Bytes []
+pub bytes-none : Bytes []
 bytes-none i = omega arith
 
-bytes-one : (x : ℕ) (t : List ℕ) → x < 256 → Bytes t → Bytes (x ∷ t)
+pub bytes-one : (x : ℕ) (t : List ℕ) → x < 256 → Bytes t → Bytes (x ∷ t)
 bytes-one x t h b = elim [ zero ↦ h | suc i ↦ b i ]
 
-bytes-append : (l m : List ℕ) → Bytes l → Bytes m → Bytes (l ++ m)
+pub bytes-append : (l m : List ℕ) → Bytes l → Bytes m → Bytes (l ++ m)
 bytes-append [] m a b = b
 bytes-append (x ∷ l) m a b = bytes-one x (l ++ m) (a 0) (bytes-append l m (λ i. a (suc i)) b)
 
@@ -277,7 +256,7 @@ bytes-joined a zero f h = bytes-none
 bytes-joined a (suc k) f h =
     bytes-append (f a) (joined (suc a) k f) (h a (omega arith) (omega arith)) (bytes-joined (suc a) k f (λ i l m. h i (omega arith) (omega arith)))
 
-bytes-word : (x : ℕ) → Bytes (wordBytes x)
+pub bytes-word : (x : ℕ) → Bytes (wordBytes x)
 bytes-word x =
     bytes-one (x % 256) (x / 256 % 256 ∷ x / 65536 % 256 ∷ x / 16777216 % 256 ∷ []) (omega arith)
     (bytes-one (x / 256 % 256) (x / 65536 % 256 ∷ x / 16777216 % 256 ∷ []) (omega arith)

@@ -21,10 +21,10 @@ use Rattle.formats.specs.Numbers.{numberOf}
 use Rattle.formats.specs.Records.{byteAt, wordAt, isMark, markOf, markAt, fits, headerBy, headerOf, viewBy, viewAt}
 use Rattle.formats.specs.ViewFile.{valuesFit, testedBy, testedAt}
 use Rattle.sets.specs.Lines.{when, firstThat}
-use Rattle.formats.specs.Table.{headerLines, recordLines}
+use Rattle.formats.specs.Table.{headerLines, processAt, setAt, endAt, viewed, recordLines}
 
 -- a failed order is the other order
-not-leb : (a b c : ℕ) → a ≡ c → not (leb a b) ≡ ltb b c
+pub not-leb : (a b c : ℕ) → a ≡ c → not (leb a b) ≡ ltb b c
 not-leb a b c e =
     ⊎-elim
     (λ t. ap not t ∙ sym (le-ltb b c (omega (arith, leb-true a b t))))
@@ -172,12 +172,21 @@ number-chain false false false false false false true h p w = refl
 number-chain false false false false false false false true p w = refl
 number-chain false false false false false false false false p w = refl
 
-pub record-number : (s : List ℕ) (at n own : ℕ) → at < length s → recordNumber (testedAt s at n own) ≡ firstThat (recordLines s at n own)
-record-number s at n own h =
+-- over the table's lines, where n is the file's and `own` the processes of the records before
+pub record-number : (s : List ℕ) (at n own : ℕ) (before : List ℕ) → at < length s → n ≡ byteAt s 2 → has own (processAt s at) ≡ viewed s (processAt s at) before
+    → recordNumber (testedAt s at n own) ≡ firstThat (recordLines s at before)
+record-number s at n own before h e f =
+    let p = processAt s at in
+    let w = setAt s at in
+    let a = eqb (length s) (at + 1) in
+    let b = isMark 77 78 (byteAt s at) (byteAt s (at + 1)) in
+    let c = not (isMark 86 87 (byteAt s at) (byteAt s (at + 1))) in
+    let d = ltb (length s) (at + 7) in
+    let g = ltb (length s) (endAt s at) in
     ap recordNumber (tested-at s at n own h)
-    ∙ number-chain (eqb (length s) (at + 1)) (isMark 77 78 (byteAt s at) (byteAt s (at + 1))) (not (isMark 86 87 (byteAt s at) (byteAt s (at + 1))))
-    (ltb (length s) (at + 7)) (not (leb 1 (byteAt s (at + 2)) && leb (byteAt s (at + 2)) n)) (has own (byteAt s (at + 2)))
-    (not (within (wordAt s (at + 3)) (first n))) (ltb (length s) (at + 7 + 4 * size (wordAt s (at + 3)))) (byteAt s (at + 2)) (wordAt s (at + 3))
+    ∙ number-chain a b c d (not (leb 1 p && leb p n)) (has own p) (not (within w (first n))) g p w
+    ∙ ap₂ (λ (n : ℕ) (o : Bool). firstThat (when 11 a ∷ when 12 b ∷ when 10 c ∷ when 11 d ∷ when 14 (not (leb 1 p && leb p n)) ∷ when 15 o
+    ∷ when 16 (not (within w (first n))) ∷ when 11 g ∷ [])) e f
 
 -- a fault has a number
 told-apart : (x y : FileAnswer) → Fault x ≡ Fault y → numberOf y ≡ 0 → numberOf x ≡ 0

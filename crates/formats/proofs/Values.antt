@@ -1,19 +1,20 @@
 -- The values of a view's members, read one after another: what one turn of the reading adds.
-use Prim.Native.Nat.{ℕ, zero, suc, _+_, _-_, _*_, _≤_, _<_}
-use mathlib.Core.Bool.{Bool, true, false, true≢false}
+use Prim.Native.Nat.{ℕ, zero, suc, _+_, _-_, _*_, _/_, _%_, _≤_, _<_}
+use mathlib.Core.Bool.{Bool, true, false, true≢false, cond}
 use mathlib.Core.Path.{_≡_, refl, sym, ap, _∙_, subst}
 use mathlib.Core.List.{List}
 use mathlib.Core.Logic.{_≢_, ⊎-elim}
+use native.Mathlib.Decide.{ℕ-discrete}
 use native.Mathlib.Nat.{eq-or-lt-of-le}
 use native.Mathlib.Numerals.{add-one}
 use native.Mathlib.Omega.{arith}
-use lib.ListN.{length, getD, set, length-set}
-use lib.Seq.{getD-set-same, getD-set-other}
+use lib.ListN.{length, getD, set, replicate, length-set}
+use lib.Seq.{getD-set-same, getD-set-other, ext-getD}
 use Rattle.sets.specs.Sets.{has, tick, count}
 use Rattle.formats.specs.Records.{wordAt}
 use Rattle.formats.specs.declared.Views.{Views}
 use Rattle.formats.specs.Views.{cell, seenBy, valueBy}
-use Rattle.formats.specs.ViewFile.{storedIf, valuesRead, withView}
+use Rattle.formats.specs.ViewFile.{valuesRead, withView}
 
 -- the place of member j + 1 in the row of process p
 pub cell-next : (p j : ℕ) → cell p (suc j) ≡ 32 * (p - 1) + j
@@ -33,7 +34,7 @@ module _ (s : List ℕ) (from p w j : ℕ) (values : List ℕ) where
   unfolding valuesRead
   values-in e =
       let step : (b : Bool) → b ≡ true
-      → storedIf b (valuesRead s from p w j values) (cell p (suc j)) (wordAt s (from + 4 * count (has w) j))
+      → cond b (set (valuesRead s from p w j values) (cell p (suc j)) (wordAt s (from + 4 * count (has w) j))) (valuesRead s from p w j values)
       ≡ set (valuesRead s from p w j values) (32 * (p - 1) + j) (wordAt s (from + 4 * count (has w) j))
       = λ b e. rw (e, cell-next p j) in
       rw (add-one j) (step (has w (suc j)) (rw (add-one j) at e))
@@ -42,7 +43,8 @@ module _ (s : List ℕ) (from p w j : ℕ) (values : List ℕ) where
   unfolding valuesRead
   values-out e =
       let step : (b : Bool) → b ≡ false
-      → storedIf b (valuesRead s from p w j values) (cell p (suc j)) (wordAt s (from + 4 * count (has w) j)) ≡ valuesRead s from p w j values
+      → cond b (set (valuesRead s from p w j values) (cell p (suc j)) (wordAt s (from + 4 * count (has w) j))) (valuesRead s from p w j values)
+      ≡ valuesRead s from p w j values
       = λ b e. rw e in
       rw (add-one j) (step (has w (suc j)) (rw (add-one j) at e))
 
@@ -55,7 +57,7 @@ module _ (s : List ℕ) (from p w : ℕ) (values : List ℕ) where
   unfolding valuesRead
   values-length zero = refl
   values-length (suc k) =
-      let go : (b : Bool) (l : List ℕ) (c x : ℕ) → length (storedIf b l c x) ≡ length l
+      let go : (b : Bool) (l : List ℕ) (c x : ℕ) → length (cond b (set l c x) l) ≡ length l
       = λ b l c x. elim b [ true ↦ length-set l c x | false ↦ refl ] in
       go (has w (suc k)) (valuesRead s from p w k values) (cell p (suc k)) (wordAt s (from + 4 * count (has w) k)) ∙ values-length k
 
@@ -64,8 +66,8 @@ module _ (s : List ℕ) (from p w : ℕ) (values : List ℕ) where
   unfolding valuesRead
   values-kept zero c h = refl
   values-kept (suc k) c h =
-      let go : (b : Bool) → has w (suc k) ≡ b → (l : List ℕ) (x : ℕ) → getD (storedIf b l (cell p (suc k)) x) c 0 ≡ getD l c 0
-      = λ b. elim b as (λ t. has w (suc k) ≡ t → (l : List ℕ) (x : ℕ) → getD (storedIf t l (cell p (suc k)) x) c 0 ≡ getD l c 0)
+      let go : (b : Bool) → has w (suc k) ≡ b → (l : List ℕ) (x : ℕ) → getD (cond b (set l (cell p (suc k)) x) l) c 0 ≡ getD l c 0
+      = λ b. elim b as (λ t. has w (suc k) ≡ t → (l : List ℕ) (x : ℕ) → getD (cond t (set l (cell p (suc k)) x) l) c 0 ≡ getD l c 0)
       [ true ↦ λ e l x. getD-set-other l (cell p (suc k)) c x 0 (h (suc k) (omega arith) (omega arith) e) | false ↦ λ e l x. refl ] in
       go (has w (suc k)) refl (valuesRead s from p w k values) (wordAt s (from + 4 * count (has w) k))
       ∙ values-kept k c (λ l a b. h l a (omega arith))
@@ -79,18 +81,18 @@ module _ (s : List ℕ) (from p w : ℕ) (values : List ℕ) where
       let old : List ℕ = valuesRead s from p w k values in
       let x : ℕ = wordAt s (from + 4 * count (has w) k) in
       let K : ℕ = cell p (suc k) in
-      let here : j ≡ suc k → getD (storedIf (has w (suc k)) old K x) (cell p j) 0 ≡ wordAt s (from + 4 * count (has w) (j - 1))
+      let here : j ≡ suc k → getD (cond (has w (suc k)) (set old K x) old) (cell p j) 0 ≡ wordAt s (from + 4 * count (has w) (j - 1))
       = λ q.
       let z : k ≡ j - 1 = omega arith in
       let long : K < length old = omega (arith, values-length k) in
-      ap (λ (y : ℕ). getD (storedIf (has w (suc k)) old K x) (cell p y) 0) q
-      ∙ ap (λ (t : Bool). getD (storedIf t old K x) K 0) (subst (λ (y : ℕ). has w y ≡ true) q h)
+      ap (λ (y : ℕ). getD (cond (has w (suc k)) (set old K x) old) (cell p y) 0) q
+      ∙ ap (λ (t : Bool). getD (cond t (set old K x) old) K 0) (subst (λ (y : ℕ). has w y ≡ true) q h)
       ∙ getD-set-same old K x 0 long
       ∙ ap (λ (y : ℕ). wordAt s (from + 4 * count (has w) y)) z in
-      let there : j < suc k → getD (storedIf (has w (suc k)) old K x) (cell p j) 0 ≡ getD old (cell p j) 0
+      let there : j < suc k → getD (cond (has w (suc k)) (set old K x) old) (cell p j) 0 ≡ getD old (cell p j) 0
       = λ q.
       let other : cell p j ≢ K = λ z. omega arith in
-      let go : (b : Bool) → getD (storedIf b old K x) (cell p j) 0 ≡ getD old (cell p j) 0
+      let go : (b : Bool) → getD (cond b (set old K x) old) (cell p j) 0 ≡ getD old (cell p j) 0
       = elim [ true ↦ getD-set-other old K (cell p j) x 0 other | false ↦ refl ] in
       go (has w (suc k)) in
       ⊎-elim here (λ q. there q ∙ values-here k j a b n c (omega arith) (omega arith) h) (eq-or-lt-of-le d)
@@ -127,3 +129,28 @@ module _ (s : List ℕ) (at : ℕ) (v : Views) (p w : ℕ) (r : Room v p) where
 
   pub value-other : (i j : ℕ) → 1 ≤ i → 1 ≤ j → j ≤ 32 → i ≢ p → valueBy (withView s at v p w) i j ≡ valueBy v i j
   value-other i j l a b n = values-others s (at + 7) p w (v .values) i j l (r .low) a b n
+
+-- Two lists of one length are one if they hold the same: by their places counted from 1,
+pub by-place : (l m : List ℕ) (k : ℕ) → length l ≡ k → length m ≡ k → ((i : ℕ) → 1 ≤ i → i ≤ k → getD l (i - 1) 0 ≡ getD m (i - 1) 0) → l ≡ m
+by-place l m k a b h =
+    ext-getD 0 l m (a ∙ sym b)
+    (λ i e. let z : suc i - 1 ≡ i = omega arith in
+    subst (λ (y : ℕ). getD l y 0 ≡ getD m y 0) z (h (suc i) (omega arith) (omega arith)))
+
+-- and the values by row and column
+pub by-cell : (l m : List ℕ) → length l ≡ 1024 → length m ≡ 1024
+    → ((j k : ℕ) → 1 ≤ j → j ≤ 32 → 1 ≤ k → k ≤ 32 → getD l (cell j k) 0 ≡ getD m (cell j k) 0) → l ≡ m
+by-cell l m a b h =
+    ext-getD 0 l m (a ∙ sym b)
+    (λ c e. let z : cell (c / 32 + 1) (c % 32 + 1) ≡ c = omega arith in
+    subst (λ (y : ℕ). getD l y 0 ≡ getD m y 0) z (h (c / 32 + 1) (c % 32 + 1) (omega arith) (omega arith) (omega arith) (omega arith)))
+
+-- An array of zeros.
+pub zeros : (k i : ℕ) → _≡_ {A = ℕ} (getD (replicate k 0) i 0) 0
+zeros zero i = refl
+zeros (suc k) zero = refl
+zeros (suc k) (suc i) = zeros k i
+
+-- process p or another
+pub by-one : (P : ℕ → Type 0) (p j : ℕ) → P p → (j ≢ p → P j) → P j
+by-one P p j a b = elim (ℕ-discrete j p) [ yes e ↦ subst P (sym e) a | no n ↦ b n ]

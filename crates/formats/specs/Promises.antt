@@ -10,7 +10,7 @@ use Rattle.formats.specs.Records.{byteAt}
 use Rattle.formats.specs.Views.{InRange, noneOf}
 use Rattle.formats.specs.ViewFile.{fileOf, readWhole, readOf}
 
--- a list of bytes
+-- A list of bytes. What a function is handed as a slice is one (`slice-bytes` of proofs/Typed), so a promise that asks for it leaves no file out.
 abbrev pub Bytes : List ℕ → Type 0
 Bytes s = (i : ℕ) → byteAt s i < 256
 

@@ -1,5 +1,7 @@
 -- Marks, little-endian numbers and records, as both kinds of file have them. A file is the list of its bytes, and a place is an offset into it.
 use Prim.Native.Nat.{ℕ, _+_, _*_, _/_, _%_}
+use Prim.Native.String.{String, charAt}
+use Prim.Native.Char.{code}
 use mathlib.Core.Bool.{Bool, _&&_, cond}
 use mathlib.Core.List.{List, [], _∷_}
 use lib.Dec.{leb, eqb}
@@ -20,17 +22,20 @@ wordAt s at = byteAt s at + 256 * byteAt s (at + 1) + 65536 * byteAt s (at + 2) 
 abbrev pub wordBytes : ℕ → List ℕ
 wordBytes x = x % 256 ∷ x / 256 % 256 ∷ x / 65536 % 256 ∷ x / 16777216 % 256 ∷ []
 
--- "Marks are ASCII": the two bytes are a and b
+-- the two bytes are a and b
 abbrev pub isMark : ℕ → ℕ → ℕ → ℕ → Bool
 isMark a b x y = eqb x a && eqb y b
 
--- MN, EN, ST, CR, VW, or none of these
+-- "Marks are ASCII": the two bytes x and y read as a mark
+abbrev pub reads : String → ℕ → ℕ → Bool
+reads mark x y = isMark (code (charAt mark 0)) (code (charAt mark 1)) x y
+
 unfoldable pub markOf : ℕ → ℕ → Mark
 markOf x y =
-    cond (isMark 77 78 x y) Mark.Header
-    (cond (isMark 69 78 x y) Mark.Enter
-    (cond (isMark 83 84 x y) Mark.Step
-    (cond (isMark 67 82 x y) Mark.Crash (cond (isMark 86 87 x y) Mark.View Mark.Other))))
+    cond (reads "MN" x y) Mark.Header
+    (cond (reads "EN" x y) Mark.Enter
+    (cond (reads "ST" x y) Mark.Step
+    (cond (reads "CR" x y) Mark.Crash (cond (reads "VW" x y) Mark.View Mark.Other))))
 
 -- what stands at a record's place: nothing left, one byte left, or a mark
 unfoldable pub markAt : List ℕ → ℕ → Mark

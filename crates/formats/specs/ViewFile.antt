@@ -1,6 +1,6 @@
 -- A view file: its bytes from the views, and the views from its bytes.
 use Prim.Native.Nat.{ℕ, zero, suc, _+_, _-_, _*_}
-use mathlib.Core.Bool.{Bool, true, false, not, _&&_, cond}
+use mathlib.Core.Bool.{Bool, not, _&&_, cond}
 use mathlib.Core.List.{List, [], _∷_, _++_}
 use lib.Dec.{leb}
 use lib.ListN.{length, set}
@@ -13,6 +13,7 @@ use Rattle.formats.specs.declared.Views.{Views}
 use Rattle.formats.specs.declared.ViewsRead.{ViewsRead}
 use Rattle.formats.specs.Records.{wordAt, wordBytes, fits, headerOf, viewAt}
 use Rattle.formats.specs.Views.{owns, seenBy, valueBy, cell, noneOf}
+use Rattle.text.specs.Ascii.{ascii}
 use Rattle.text.specs.Parts.{joined}
 
 -- The bytes. "`VW`, process (1), set (4; bit i-1 for process i), then one 4-byte value for each process in the set, ascending."
@@ -20,11 +21,11 @@ abbrev pub valueBytes : Views → ℕ → ℕ → List ℕ
 valueBytes v i j = cond (has (seenBy v i) j) (wordBytes (valueBy v i j)) []
 
 unfoldable pub viewBytes : Views → ℕ → List ℕ
-viewBytes v i = 86 ∷ 87 ∷ i ∷ wordBytes (seenBy v i) ++ joined 1 32 (valueBytes v i)
+viewBytes v i = ascii "VW" ++ i ∷ wordBytes (seenBy v i) ++ joined 1 32 (valueBytes v i)
 
 -- "`MN`, n (1 byte)", then the views, the processes ascending
 unfoldable pub fileOf : Views → List ℕ
-fileOf v = 77 ∷ 78 ∷ v .n ∷ joined 1 32 (λ i. cond (owns v i) (viewBytes v i) [])
+fileOf v = ascii "MN" ++ v .n ∷ joined 1 32 (λ i. cond (owns v i) (viewBytes v i) [])
 
 -- The views. "For `VW`: the five fixed bytes (11), 14, 15, 16, then the values (11)."
 abbrev pub valuesFit : List ℕ → ℕ → ℕ → Bool
@@ -46,16 +47,12 @@ testedBy s at n own (ViewRecord.View p w) = testedView s at n own p w
 unfoldable pub testedAt : List ℕ → ℕ → ℕ → ℕ → ViewRecord
 testedAt s at n own = testedBy s at n own (viewAt s at)
 
--- one value stored, or none
-abbrev pub storedIf : Bool → List ℕ → ℕ → ℕ → List ℕ
-storedIf true values k x = set values k x
-storedIf false values k x = values
-
 -- the values of the members of w up to j, which stand from a place on, stored as those of process p's view
 unfoldable pub valuesRead : List ℕ → ℕ → ℕ → ℕ → ℕ → List ℕ → List ℕ
 valuesRead s from p w zero values = values
 valuesRead s from p w (suc j) values =
-    storedIf (has w (suc j)) (valuesRead s from p w j values) (cell p (suc j)) (wordAt s (from + 4 * count (has w) j))
+    let below : List ℕ = valuesRead s from p w j values in
+    cond (has w (suc j)) (set below (cell p (suc j)) (wordAt s (from + 4 * count (has w) j))) below
 
 -- the views with process p's view beside them, whose record stands at a place and names the processes of w
 abbrev pub withView : List ℕ → ℕ → Views → ℕ → ℕ → Views
@@ -75,9 +72,10 @@ onward s at v ViewRecord.End next = readWhole s v
 onward s at v (ViewRecord.Fault a) next = refusedAt a at
 onward s at v (ViewRecord.View p w) next = next (at + (7 + 4 * size w)) (withView s at v p w)
 
--- the records from a place on, `turns` of them at most; a record has seven bytes at least, so the file's length is enough
+-- The records from a place on, `turns` of them at most. A record has seven bytes at least, so the file's length is enough and no file comes to
+-- its last turn, which refuses: specs/Table says what is read, and what is refused, with no turns.
 unfoldable pub readFrom : ℕ → List ℕ → ℕ → Views → ViewsRead
-readFrom zero s at v = readWhole s v
+readFrom zero s at v = refusedAt BodyCut at
 readFrom (suc turns) s at v = onward s at v (testedAt s at (v .n) (v .own)) (readFrom turns s)
 
 abbrev pub readBy : List ℕ → Header → ViewsRead

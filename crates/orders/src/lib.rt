@@ -173,7 +173,7 @@ fn file_len(m: Machine) -> usize
 }
 
 // A number's four bytes, stored at a place.
-fn put_word(buffer: &mut [u8], at: usize, x: u32)
+fn put_number(buffer: &mut [u8], at: usize, x: u32)
     requires { ⌜ at + 4 ≤ length (now buffer) ⌝ }
     ensures { λ _. ⌜ now (buffer .exit) ≡ put (now (buffer .entry)) at (wordBytes x) ⌝ }
 {
@@ -196,7 +196,7 @@ fn put_values(buffer: &mut [u8], at: usize, values: &[u32; 1024], level: u32, vi
         let k = (row + member) as usize;
         member += 1;
         if sets::has(view, member) {
-            put_word(buffer, place, values[k]);
+            put_number(buffer, place, values[k]);
             place += 4;
         }
     }
@@ -219,7 +219,7 @@ fn put_view(
     buffer[at] = 86;
     buffer[at + 1] = 87;
     buffer[at + 2] = p as u8;
-    put_word(buffer, at + 3, view);
+    put_number(buffer, at + 3, view);
     put_values(buffer, at + 7, values, level, view)
 }
 

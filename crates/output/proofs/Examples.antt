@@ -27,7 +27,7 @@ use Rattle.findings.specs.Findings.{agree, inside, breaks, ofOne, ofPair, findi
 use Rattle.findings.specs.Verdict.{verdictOf}
 use Rattle.replays.specs.declared.Counts.{Counts}
 use Rattle.replays.specs.declared.Replayed.{Replayed}
-use Rattle.replays.specs.Replays.{onward, replayBy, replayOf, ordersFrom}
+use Rattle.replays.specs.Replays.{orderThen, replayBy, replayOf, ordersFrom}
 use Rattle.replays.specs.Coded.Turns.{none, counted, ends, resumed}
 use Rattle.formats.specs.Examples.{MN}
 use Rattle.findings.specs.Examples.{p10}
@@ -74,7 +74,7 @@ resumed-bare n zero s at k m M = refl
 resumed-bare n (suc budget) s at k m M = by (orderAt s at) (λ at′ k′ m′ M′. resumed-bare n budget s at′ k′ m′ M′)
   where
     by : (o : Order) → ((at′ : ℕ) (k′ : Counts) (m′ : Machine) → Meets n m′ → resumed k′ m′ (ordersFrom budget s at′) ≡ bareFrom budget s at′ k′ m′)
-        → resumed k m (onward s at o (ordersFrom budget s)) ≡ bareBy s at o k m (bareFrom budget s)
+        → resumed k m (orderThen s at o (ordersFrom budget s)) ≡ bareBy s at o k m (bareFrom budget s)
     by Order.End f = sym (resumed-ended k m Whole (length s))
     by (Order.Fault a) f = sym (resumed-ended k m a at)
     by (Order.Enter p v) f =

@@ -1,11 +1,11 @@
 -- The checker accepts what is written of a state that a run or an order file leaves: the three properties of runs, carried over to the views of the file.
-use Prim.Native.Nat.{ℕ, zero, suc, _+_, _^_, _≤_, _<_}
+use Prim.Native.Nat.{ℕ, _^_, _≤_, _<_}
 use mathlib.Core.Bool.{Bool, true, false, _&&_, cond}
 use mathlib.Core.Path.{_≡_, refl, sym, ap, _∙_, subst}
 use mathlib.Core.Logic.{⊎-elim, inl, inr}
 use mathlib.Core.List.{List, [], _∷_}
 use native.Mathlib.Omega.{arith}
-use lib.Dec.{leb, eqb}
+use lib.Dec.{eqb}
 use lib.ListN.{length}
 use Rattle.sets.specs.Sets.{has}
 use Rattle.sets.specs.Immediate.{Immediate, Inside}
@@ -18,17 +18,12 @@ use Rattle.rules.proofs.Laws.Shape.{record-shaped}
 use Rattle.history.specs.Runs.{Call, enters, steps, crashes, after, runs, givenFrom, given}
 use Rattle.history.specs.Views.{Has, View}
 use Rattle.history.proofs.Given.{value-given}
-use Rattle.formats.specs.declared.Header.{Header}
-use Rattle.formats.specs.declared.Mark.{Mark}
-use Rattle.formats.specs.declared.Order.{Order}
-use Rattle.formats.specs.declared.FileAnswer.the-variants.{Whole, BudgetSpent, BodyCut}
 use Rattle.formats.specs.declared.ViewsRead.{ViewsRead}
 use Rattle.formats.specs.Numbers as numbers
-use Rattle.formats.specs.Records.{byteAt, wordAt, fits, markAt, headerOf, orderBy, orderAt}
+use Rattle.formats.specs.Records.{headerOf}
 use Rattle.formats.specs.Views.{seenBy}
 use Rattle.formats.specs.ViewFile.{readOf, readWhole}
 use Rattle.formats.specs.Promises.{Bytes}
-use Rattle.formats.proofs.Ranges.{word-below}
 use Rattle.findings.specs.declared.Finding.{Finding}
 use Rattle.findings.specs.Findings.{found, checkOf}
 use Rattle.findings.specs.Verdict.{judged}
@@ -36,12 +31,13 @@ use Rattle.findings.specs.Properties as properties
 use Rattle.findings.proofs.Accepts.{accepts-exactly}
 use Rattle.findings.proofs.FirstBreak.{yes-is-no-finding}
 use Rattle.findings.proofs.Verdicts.{read-then-checked}
-use Rattle.replays.specs.Replays.{Orders, ended, onward, ordersFrom, replayOf, callsBy, callsOf, processesOf}
-use Rattle.replays.specs.OrderFile.{WordCalls}
+use Rattle.replays.specs.Replays.{ended, replayOf, callsOf, processesOf}
+use Rattle.replays.specs.OrderFile.{FileCalls}
 use Rattle.replays.specs.Writes.{viewsOf, bytesOf}
 use Rattle.replays.specs.Promises.{Accepted, EveryRunAccepted, EveryFileAccepted, DemandThree}
 use Rattle.replays.proofs.Views.{seen}
 use Rattle.replays.proofs.RoundTrip.{view-found, owner-known, owner-finished, owner-below, named-below, value-named, written-reads-back}
+use Rattle.replays.proofs.FileOfCalls.{file-calls}
 use Rattle.replays.proofs.Promises.{few-processes, demand-three, every-file-counted, every-file-demand-three}
 
 -- The views of a machine and those of its file are the same pairs.
@@ -108,61 +104,15 @@ module _ (m : Machine) (S : Shaped m) where
     yes = yes-is-no-finding (viewsOf m) .1 (accepts-exactly (viewsOf m) .1 obeys)
 
 -- The values that an order file gives are 32-bit numbers.
-abbrev WordOrder : Order → Type 0
-WordOrder Order.End = Unit {0}
-WordOrder (Order.Fault a) = Unit {0}
-WordOrder (Order.Enter p v) = v < 2 ^ 32
-WordOrder (Order.Step p) = Unit {0}
-WordOrder (Order.Crash p) = Unit {0}
-
-word-if : (b : Bool) (o : Order) → WordOrder o → WordOrder (cond b o (Order.Fault BodyCut))
-word-if true o e = e
-word-if false o e = tt
-
-word-by : (s : List ℕ) → Bytes s → (at : ℕ) (k : Mark) → WordOrder (orderBy s at k)
-word-by s b at Mark.End = tt
-word-by s b at Mark.Cut = tt
-word-by s b at Mark.Header = tt
-word-by s b at Mark.Enter = word-if (fits s at 5) (Order.Enter (byteAt s (at + 2)) (wordAt s (at + 3))) (word-below s b (at + 3))
-word-by s b at Mark.Step = word-if (fits s at 1) (Order.Step (byteAt s (at + 2))) tt
-word-by s b at Mark.Crash = word-if (fits s at 1) (Order.Crash (byteAt s (at + 2))) tt
-word-by s b at Mark.View = tt
-word-by s b at Mark.Other = tt
-
-word-order : (s : List ℕ) → Bytes s → (at : ℕ) → WordOrder (orderAt s at)
-unfolding orderAt
-word-order s b at = word-by s b at (markAt s at)
-
-word-onward : (s : List ℕ) (at : ℕ) (o : Order) (next : ℕ → Orders) → WordOrder o → ((at : ℕ) → WordCalls (next at .calls))
-    → WordCalls (onward s at o next .calls)
-word-onward s at Order.End next w n = tt
-word-onward s at (Order.Fault a) next w n = tt
-word-onward s at (Order.Enter p v) next w n = (w, n (at + 7))
-word-onward s at (Order.Step p) next w n = (tt, n (at + 3))
-word-onward s at (Order.Crash p) next w n = (tt, n (at + 3))
-
-word-zero : (b : Bool) (k at : ℕ) → WordCalls (cond b (ended Whole k) (ended BudgetSpent at) .calls)
-word-zero true k at = tt
-word-zero false k at = tt
-
-word-orders : (k : ℕ) (s : List ℕ) → Bytes s → (at : ℕ) → WordCalls (ordersFrom k s at .calls)
-unfolding ordersFrom
-word-orders zero s b at = word-zero (leb (length s) at) (length s) at
-word-orders (suc k) s b at = word-onward s at (orderAt s at) (ordersFrom k s) (word-order s b at) (λ i. word-orders k s b i)
-
-word-calls : (s : List ℕ) → Bytes s → (budget : ℕ) (h : Header) → WordCalls (callsBy s budget h)
-word-calls s b budget (Header.Of n) = word-orders budget s b 3
-word-calls s b budget (Header.Fault a) = tt
-
 given-if : (b : Bool) (v o : ℕ) → v < 2 ^ 32 → o < 2 ^ 32 → cond b v o < 2 ^ 32
 given-if true v o p q = p
 given-if false v o p q = q
 
-given-below : (m : Machine) (cs : List Call) (p : ℕ) → WordCalls cs → givenFrom m cs p < 2 ^ 32
+given-below : (m : Machine) (cs : List Call) (p : ℕ) → FileCalls cs → givenFrom m cs p < 2 ^ 32
 unfolding givenFrom
 given-below m [] p w = omega arith
 given-below m (enters q v ∷ cs) p w =
-    given-if (eqb q p && accepted (enterOf m q v)) v (givenFrom (after m (enters q v)) cs p) (w .0) (given-below (after m (enters q v)) cs p (w .1))
+    given-if (eqb q p && accepted (enterOf m q v)) v (givenFrom (after m (enters q v)) cs p) (w .0 .1) (given-below (after m (enters q v)) cs p (w .1))
 given-below m (steps q ∷ cs) p w = given-below (after m (steps q)) cs p (w .1)
 given-below m (crashes q ∷ cs) p w = given-below (after m (crashes q)) cs p (w .1)
 
@@ -174,7 +124,7 @@ file-words s b budget i low high =
       arith,
       ap (λ (m : Machine). valueOf m i) (every-file-counted s budget .state),
       value-given (processesOf s) (f .0) (f .1) (callsOf s budget) i low high,
-      given-below (fresh (processesOf s)) (callsOf s budget) i (word-calls s b budget (headerOf s)),
+      given-below (fresh (processesOf s)) (callsOf s budget) i (file-calls s b budget (headerOf s) refl),
     )
 
 -- the properties of a run are those of its file

@@ -5,6 +5,7 @@ pub mod Writes
 pub mod Orders
 pub mod WholeFile
 pub mod OrderFile
+pub mod FileOfCalls
 pub mod Promises
 pub mod Examples
 pub mod Looked

@@ -9,12 +9,16 @@ use Rattle.rules.specs.declared.Stage.{Stage}
 use Rattle.rules.specs.declared.Stage.the-variants.{Absent, Running, Finished, Crashed}
 use Rattle.rules.specs.declared.Standing.{Standing}
 use Rattle.rules.specs.declared.Sight.{Sight}
+use Rattle.rules.specs.declared.Machine.{Machine}
+use Rattle.rules.specs.Shape.{shaped}
 use Rattle.rules.specs.State.{stageOf, cellIn, finished, levelOf}
 use Rattle.rules.specs.Calls.{standingOf, viewOf, looked, lookOf}
 use Rattle.rules.proofs.Laws.Shape.{shaped-record}
 use Rattle.rules.proofs.Laws.Looks.{look-valid, row-values-at}
-use Rattle.replays.specs.Promises.{EveryViewLooked}
+use Rattle.replays.specs.Writes.{viewsOf}
+use Rattle.replays.specs.Promises.{AsLooked, EveryViewLooked}
 use Rattle.replays.proofs.Views.{owned, seen, valued}
+use Rattle.replays.proofs.RoundTrip.{owner-known, owner-below}
 
 -- finished is what the standing says
 abbrev isFinished : Standing → Bool
@@ -35,8 +39,8 @@ finishes (Running x k f) = refl
 finishes (Finished x w) = refl
 finishes (Crashed x k f) = refl
 
-pub every-view-looked : EveryViewLooked
-every-view-looked m e i low high =
+as-looked : (m : Machine) → shaped m ≡ true → (i : ℕ) → 1 ≤ i → i ≤ m .n → AsLooked m i
+as-looked m e i low high =
     let top : i ≤ 32 = omega (arith, shaped-record m e .most) in
     let s = stageOf m i in
     let l : lookOf m i ≡ looked m s = look-valid m i (record { shape = e; low = low; high = high }) in
@@ -53,3 +57,9 @@ every-view-looked m e i low high =
           ∙ sym (row-values-at (m .values) (levelOf s) (viewOf s) 1 32 (j - 1) (omega arith))
           ∙ sym (ap (λ (r : Sight). getD (r .values) (j - 1) 0) l);
     }
+
+pub every-view-looked : EveryViewLooked
+unfolding viewsOf
+every-view-looked m e =
+    let S = shaped-record m e in
+    record { processes = refl; each = as-looked m e; no-other = λ i h. (owner-known m S i h .0, owner-below m S i h) }

@@ -1,39 +1,30 @@
 -- Every list of calls is the replay of a file: its bytes read back as the same calls.
 use Prim.Native.Nat.{ℕ, zero, suc, _+_, _≤_}
-use mathlib.Core.Bool.{Bool, true, cond}
+use Prim.Native.String.{String}
+use mathlib.Core.Bool.{true}
 use mathlib.Core.Path.{_≡_, refl, sym, ap, ap₂, _∙_, subst}
 use mathlib.Core.List.{List, [], _∷_, _++_, append-assoc}
 use native.Mathlib.Nat.{add-zero}
 use native.Mathlib.Omega.{arith}
-use lib.Dec.{eqb}
 use lib.ListN.{length, length-append}
-use borrow.Author.Tests.{le-leb, lt-leb, ne-eqb}
 use Rattle.history.specs.Runs.{Call, enters, steps, crashes}
-use Rattle.formats.specs.declared.FileAnswer.the-variants.{Whole, BodyCut}
-use Rattle.formats.specs.declared.Mark.{Mark}
+use Rattle.formats.specs.declared.FileAnswer.the-variants.{Whole}
 use Rattle.formats.specs.declared.Order.{Order}
-use Rattle.formats.specs.Records.{byteAt, wordAt, fits, markOf, markAt, orderBy, orderAt}
+use Rattle.formats.specs.Records.{byteAt, reads, orderAt}
 use Rattle.formats.proofs.Bytes.{word-back, byte-past, word-past}
 use Rattle.formats.proofs.Table.{header-read}
-use Rattle.replays.specs.Replays.{Orders, then, onward, ordersFrom, replayed, replayBy, replayOf}
-use Rattle.replays.specs.OrderFile.{callBytes, orderBytes, orderFile, WordCall, WordCalls}
+use Rattle.replays.specs.Replays.{Orders, then, orderThen, ordersFrom, replayed, replayBy, replayOf}
+use Rattle.replays.specs.OrderFile.{callBytes, orderBytes, orderFile, FileCall, FileCalls}
 use Rattle.replays.specs.Promises.{EveryListReplays}
+use Rattle.replays.specs.Table.{marked}
 use Rattle.replays.proofs.Turns.{from-end, from-order}
+use Rattle.replays.proofs.Orders.{enter-at, step-at, crash-at}
 
 -- the order that a call is
 abbrev orderOf : Call → Order
 orderOf (enters p v) = Order.Enter p v
 orderOf (steps p) = Order.Step p
 orderOf (crashes p) = Order.Crash p
-
--- a mark of two bytes that are there
-mark-at : (s : List ℕ) (at x y : ℕ) → at + 2 ≤ length s → byteAt s at ≡ x → byteAt s (at + 1) ≡ y → markAt s at ≡ markOf x y
-unfolding markAt
-mark-at s at x y h e f =
-    let mark : Mark = markOf (byteAt s at) (byteAt s (at + 1)) in
-    ap (λ (b : Bool). cond b Mark.End (cond (eqb (length s) (at + 1)) Mark.Cut mark)) (lt-leb (length s) at (omega arith))
-    ∙ ap (λ (b : Bool). cond b Mark.Cut mark) (ne-eqb (length s) (at + 1) (λ z. omega arith))
-    ∙ ap₂ markOf e f
 
 -- a call's bytes, after others and before others
 module _ (a t : List ℕ) where
@@ -43,38 +34,23 @@ module _ (a t : List ℕ) where
   long : (l : List ℕ) (k : ℕ) → k ≤ length l → length a + k ≤ length (a ++ l)
   long l k h = omega (arith, length-append a l)
 
-  stands : (c : Call) → WordCall c → orderAt (a ++ (callBytes c ++ t)) (length a) ≡ orderOf c
-  unfolding orderAt markOf
+  -- the mark of a call's bytes
+  marks : (l : List ℕ) (t : String) → marked l 0 t ≡ true → marked (a ++ l) (length a) t ≡ true
+  marks l t e = ap₂ (reads t) (at-0 l) (byte-past a l 1) ∙ e
+
+  stands : (c : Call) → FileCall c → orderAt (a ++ (callBytes c ++ t)) (length a) ≡ orderOf c
   stands (enters p v) w =
       let l : List ℕ = callBytes (enters p v) ++ t in
-      let s : List ℕ = a ++ l in
-      let n = length a in
-      let seven : n + 7 ≤ length s = long l 7 (omega arith) in
-      let whole : fits s n 5 ≡ true = le-leb (n + 2 + 5) (length s) (omega arith) in
-      ap (orderBy s n) (mark-at s n 69 78 (omega arith) (at-0 l) (byte-past a l 1))
-      ∙ ap (λ (b : Bool). cond b (Order.Enter (byteAt s (n + 2)) (wordAt s (n + 3))) (Order.Fault BodyCut)) whole
-      ∙ ap₂ Order.Enter (byte-past a l 2) (word-past a l 3 ∙ word-back v t w)
+      enter-at (a ++ l) (length a) (long l 7 (omega arith)) (marks l "EN" refl) ∙ ap₂ Order.Enter (byte-past a l 2) (word-past a l 3 ∙ word-back v t (w .1))
   stands (steps p) w =
       let l : List ℕ = callBytes (steps p) ++ t in
-      let s : List ℕ = a ++ l in
-      let n = length a in
-      let three : n + 3 ≤ length s = long l 3 (omega arith) in
-      let whole : fits s n 1 ≡ true = le-leb (n + 2 + 1) (length s) (omega arith) in
-      ap (orderBy s n) (mark-at s n 83 84 (omega arith) (at-0 l) (byte-past a l 1))
-      ∙ ap (λ (b : Bool). cond b (Order.Step (byteAt s (n + 2))) (Order.Fault BodyCut)) whole
-      ∙ ap Order.Step (byte-past a l 2)
+      step-at (a ++ l) (length a) (long l 3 (omega arith)) (marks l "ST" refl) ∙ ap Order.Step (byte-past a l 2)
   stands (crashes p) w =
       let l : List ℕ = callBytes (crashes p) ++ t in
-      let s : List ℕ = a ++ l in
-      let n = length a in
-      let three : n + 3 ≤ length s = long l 3 (omega arith) in
-      let whole : fits s n 1 ≡ true = le-leb (n + 2 + 1) (length s) (omega arith) in
-      ap (orderBy s n) (mark-at s n 67 82 (omega arith) (at-0 l) (byte-past a l 1))
-      ∙ ap (λ (b : Bool). cond b (Order.Crash (byteAt s (n + 2))) (Order.Fault BodyCut)) whole
-      ∙ ap Order.Crash (byte-past a l 2)
+      crash-at (a ++ l) (length a) (long l 3 (omega arith)) (marks l "CR" refl) ∙ ap Order.Crash (byte-past a l 2)
 
 -- what follows a call's bytes
-follows : (s : List ℕ) (at k : ℕ) (c : Call) → onward s at (orderOf c) (ordersFrom k s) ≡ then c (ordersFrom k s (at + length (callBytes c)))
+follows : (s : List ℕ) (at k : ℕ) (c : Call) → orderThen s at (orderOf c) (ordersFrom k s) ≡ then c (ordersFrom k s (at + length (callBytes c)))
 follows s at k (enters p v) = refl
 follows s at k (steps p) = refl
 follows s at k (crashes p) = refl
@@ -83,16 +59,16 @@ follows s at k (crashes p) = refl
 abbrev whole : List ℕ → List Call → Orders
 whole s cs = record { answer = Whole; place = length s; calls = cs }
 
-reads : (cs : List Call) (a : List ℕ) (k : ℕ) → WordCalls cs → length cs ≤ k → ordersFrom k (a ++ orderBytes cs) (length a) ≡ whole (a ++ orderBytes cs) cs
+read-back : (cs : List Call) (a : List ℕ) (k : ℕ) → FileCalls cs → length cs ≤ k → ordersFrom k (a ++ orderBytes cs) (length a) ≡ whole (a ++ orderBytes cs) cs
 unfolding orderBytes
-reads [] a k w h = from-end k (a ++ []) (length a) (omega (arith, length-append a []))
-reads (c ∷ cs) a zero w h = absurd (omega arith)
-reads (c ∷ cs) a (suc k) w h =
+read-back [] a k w h = from-end k (a ++ []) (length a) (omega (arith, length-append a []))
+read-back (c ∷ cs) a zero w h = absurd (omega arith)
+read-back (c ∷ cs) a (suc k) w h =
     let s : List ℕ = a ++ (callBytes c ++ orderBytes cs) in
     let e : (a ++ callBytes c) ++ orderBytes cs ≡ s = append-assoc a (callBytes c) (orderBytes cs) in
     let next : ordersFrom k s (length a + length (callBytes c)) ≡ whole s cs
     = subst (λ (n : ℕ). ordersFrom k s n ≡ whole s cs) (length-append a (callBytes c))
-    (subst (λ (l : List ℕ). ordersFrom k l (length (a ++ callBytes c)) ≡ whole l cs) e (reads cs (a ++ callBytes c) k (w .1) (omega arith))) in
+    (subst (λ (l : List ℕ). ordersFrom k l (length (a ++ callBytes c)) ≡ whole l cs) e (read-back cs (a ++ callBytes c) k (w .1) (omega arith))) in
     from-order (suc k) k s (length a) (orderOf c) refl (stands a (orderBytes cs) c (w .0))
     ∙ follows s (length a) k c
     ∙ ap (then c) next
@@ -101,4 +77,4 @@ pub every-list-replays : EveryListReplays
 unfolding replayOf
 every-list-replays n low high cs w budget h =
     ap (replayBy (orderFile n cs) budget) (header-read n (orderBytes cs) low high)
-    ∙ ap (replayed n) (reads cs (77 ∷ 78 ∷ n ∷ []) budget w h)
+    ∙ ap (replayed n) (read-back cs (77 ∷ 78 ∷ n ∷ []) budget w h)

@@ -18,7 +18,7 @@ use Rattle.formats.specs.declared.Order.{Order}
 use Rattle.formats.specs.Records.{byteAt, wordAt, fits, markOf, markAt, orderBy, orderAt}
 use Rattle.replays.specs.declared.Counts.{Counts}
 use Rattle.replays.specs.declared.Replayed.{Replayed}
-use Rattle.replays.specs.Replays.{Orders, ended, then, onward, ordersFrom, replayed}
+use Rattle.replays.specs.Replays.{Orders, ended, then, orderThen, ordersFrom, replayed}
 use Rattle.replays.specs.Coded.Turns.{none, took, ends, resumed}
 
 -- The counts of one order more.
@@ -94,7 +94,7 @@ order-end s at h = ap (λ (b : Bool). orderBy s at (cond b Mark.End (markIf s at
 pub from-end : (k : ℕ) (s : List ℕ) (at : ℕ) → length s ≤ at → ordersFrom k s at ≡ ended Whole (length s)
 unfolding ordersFrom
 from-end zero s at h = ap (λ (b : Bool). cond b (ended Whole (length s)) (ended BudgetSpent at)) (le-leb (length s) at h)
-from-end (suc k) s at h = ap (λ (o : Order). onward s at o (ordersFrom k s)) (order-end s at h)
+from-end (suc k) s at h = ap (λ (o : Order). orderThen s at o (ordersFrom k s)) (order-end s at h)
 
 pub from-spent : (k : ℕ) (s : List ℕ) (at : ℕ) → k ≡ 0 → at < length s → ordersFrom k s at ≡ ended BudgetSpent at
 unfolding ordersFrom
@@ -102,9 +102,9 @@ from-spent k s at e h =
     ap (λ (j : ℕ). ordersFrom j s at) e
     ∙ ap (λ (b : Bool). cond b (ended Whole (length s)) (ended BudgetSpent at)) (lt-leb (length s) at h)
 
-pub from-order : (k j : ℕ) (s : List ℕ) (at : ℕ) (o : Order) → k ≡ suc j → orderAt s at ≡ o → ordersFrom k s at ≡ onward s at o (ordersFrom j s)
+pub from-order : (k j : ℕ) (s : List ℕ) (at : ℕ) (o : Order) → k ≡ suc j → orderAt s at ≡ o → ordersFrom k s at ≡ orderThen s at o (ordersFrom j s)
 unfolding ordersFrom
-from-order k j s at o e f = ap (λ (i : ℕ). ordersFrom i s at) e ∙ ap (λ (x : Order). onward s at x (ordersFrom j s)) f
+from-order k j s at o e f = ap (λ (i : ℕ). ordersFrom i s at) e ∙ ap (λ (x : Order). orderThen s at x (ordersFrom j s)) f
 
 -- no count passes the orders taken
 ticked : (b : Bool) → tick b ≤ 1
@@ -149,7 +149,7 @@ module _ (s : List ℕ) (n budget : ℕ) (r : Counts) (m : Machine) (at : ℕ) (
   over-spent e h = over BudgetSpent at (from-spent (budget - r .taken) s at (omega arith) h)
 
   module _ (more : r .taken < budget) where
-    turn : (o : Order) → orderAt s at ≡ o → ordersFrom (budget - r .taken) s at ≡ onward s at o (ordersFrom (budget - (r .taken + 1)) s)
+    turn : (o : Order) → orderAt s at ≡ o → ordersFrom (budget - r .taken) s at ≡ orderThen s at o (ordersFrom (budget - (r .taken + 1)) s)
     turn o e = from-order (budget - r .taken) (budget - (r .taken + 1)) s at o (omega arith) e
 
     pub over-none : orderAt s at ≡ Order.End → ends Whole (length s) r m ≡ replayed n (ordersFrom budget s 3)
@@ -159,7 +159,7 @@ module _ (s : List ℕ) (n budget : ℕ) (r : Counts) (m : Machine) (at : ℕ) (
     over-fault a e = over a at (turn (Order.Fault a) e)
 
     one-more : (c : Call) (o : Order) → orderAt s at ≡ o
-        → onward s at o (ordersFrom (budget - (r .taken + 1)) s) ≡ then c (ordersFrom (budget - (r .taken + 1)) s (at + width o))
+        → orderThen s at o (ordersFrom (budget - (r .taken + 1)) s) ≡ then c (ordersFrom (budget - (r .taken + 1)) s (at + width o))
         → Going s n budget (took r m c) (answer m c .machine) (at + width o)
     one-more c o e f =
         record {

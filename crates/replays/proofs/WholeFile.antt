@@ -1,7 +1,7 @@
 -- Replaying along a whole file: where it stops, with which calls, and each number exactly when it applies there.
 use Prim.Native.Nat.{ℕ, zero, suc, _+_, _-_, _≤_, _<_}
 use mathlib.Core.Bool.{Bool, true, false, cond}
-use mathlib.Core.Path.{_≡_, refl, sym, ap, _∙_, subst}
+use mathlib.Core.Path.{_≡_, refl, sym, ap, _∙_, subst, subst₂}
 use mathlib.Core.Logic.{inl, inr, _≢_, ⊎-elim}
 use mathlib.Core.List.{List, [], _∷_, _++_, append-assoc, append-nil}
 use native.Mathlib.Nat.{eq-or-lt-of-le}
@@ -16,14 +16,15 @@ use Rattle.formats.specs.declared.FileAnswer.the-variants.{Whole, BudgetSpent}
 use Rattle.formats.specs.declared.Header.{Header}
 use Rattle.formats.specs.declared.Order.{Order}
 use Rattle.formats.specs.Numbers.{numberOf}
-use Rattle.formats.specs.Records.{headerOf, orderAt}
+use Rattle.formats.specs.Records.{byteAt, wordAt, headerOf, orderAt}
+use Rattle.formats.specs.Table.{headerLines}
 use Rattle.sets.specs.Lines.{firstThat}
 use Rattle.formats.proofs.Reading.{opened}
 use Rattle.formats.proofs.Table.{headerNumber, header-number, header-refused}
-use Rattle.replays.specs.Replays.{Orders, ended, then, onward, ordersFrom, replayBy, replayOf, callsBy, callsOf}
-use Rattle.replays.specs.Table.{orderLines, Holds, start, enter, step, crash, HoldsOne, Refusal, RefusedExactly, ToTheEnd, WholeExactly}
+use Rattle.replays.specs.Replays.{Orders, ended, then, orderThen, ordersFrom, replayBy, replayOf, callsBy, callsOf}
+use Rattle.replays.specs.Table.{orderLines, Holds, start, enter, step, crash, HoldsOne, Refusal, RefusedExactly, WholeExactly, WholePlace}
 use Rattle.replays.proofs.Turns.{width, whole-order, order-end, from-end, from-spent, from-order}
-use Rattle.replays.proofs.Orders.{orderNumber, order-number, not-end}
+use Rattle.replays.proofs.Orders.{orderNumber, order-number, enter-stands, step-stands, crash-stands, told}
 
 -- calls made before others
 after : List Call → Orders → Orders
@@ -41,7 +42,7 @@ record Comes (s : List ℕ) (budget at : ℕ) (cs : List Call) : Type 0 where
   same : ordersFrom budget s 3 ≡ after cs (ordersFrom (budget - length cs) s at)
 
 one-more : (s : List ℕ) (budget at : ℕ) (cs : List Call) (c : Call) (o : Order) → Comes s budget at cs → length (cs ++ c ∷ []) ≤ budget → orderAt s at ≡ o
-    → ((k : ℕ) → onward s at o (ordersFrom k s) ≡ then c (ordersFrom k s (at + width o))) → Comes s budget (at + width o) (cs ++ c ∷ [])
+    → ((k : ℕ) → orderThen s at o (ordersFrom k s) ≡ then c (ordersFrom k s (at + width o))) → Comes s budget (at + width o) (cs ++ c ∷ [])
 one-more s budget at cs c o g l e f =
     let k = budget - length (cs ++ c ∷ []) in
     let z : budget - length cs ≡ suc k = omega (arith, length-append cs (c ∷ [])) in
@@ -55,17 +56,53 @@ one-more s budget at cs c o g l e f =
 fewer : (cs : List Call) (c : Call) (budget : ℕ) → length (cs ++ c ∷ []) ≤ budget → length cs ≤ budget
 fewer cs c budget l = omega (arith, length-append cs (c ∷ []))
 
+-- a header of which no line applies is read, and the other way round
+pub header-whole : (s : List ℕ) (n : ℕ) → headerOf s ≡ Header.Of n → firstThat (headerLines s) ≡ 0
+header-whole s n e = sym (header-number s) ∙ ap headerNumber e
+
+whole-by : (s : List ℕ) → firstThat (headerLines s) ≡ 0 → (h : Header) → headerOf s ≡ h → (n : ℕ) × (headerOf s ≡ Header.Of n)
+whole-by s z (Header.Of n) e = (n, e)
+whole-by s z (Header.Fault a) e = absurd (header-refused s a e (sym (ap headerNumber e) ∙ header-number s ∙ z))
+
+pub whole-header : (s : List ℕ) → firstThat (headerLines s) ≡ 0 → (n : ℕ) × (headerOf s ≡ Header.Of n)
+whole-header s z = whole-by s z (headerOf s) refl
+
 comes : {s : List ℕ} {at : ℕ} {cs : List Call} (budget : ℕ) → Holds s at cs → length cs ≤ budget → Comes s budget at cs
 unfolding after
-comes {s} budget (start {n = n} e) l =
-    let z : budget ≡ budget - 0 = omega arith in
-    record { inside = opened s n e .long; header = (n, e); same = ap (λ (k : ℕ). ordersFrom k s 3) z }
-comes {s} budget (enter {at = at} {cs = cs} {p = p} {v = v} h e) l =
-    one-more s budget at cs (enters p v) (Order.Enter p v) (comes budget h (fewer cs (enters p v) budget l)) l e (λ k. refl)
-comes {s} budget (step {at = at} {cs = cs} {p = p} h e) l =
-    one-more s budget at cs (steps p) (Order.Step p) (comes budget h (fewer cs (steps p) budget l)) l e (λ k. refl)
-comes {s} budget (crash {at = at} {cs = cs} {p = p} h e) l =
-    one-more s budget at cs (crashes p) (Order.Crash p) (comes budget h (fewer cs (crashes p) budget l)) l e (λ k. refl)
+comes {s} budget (start z) l =
+    let y : budget ≡ budget - 0 = omega arith in
+    let h = whole-header s z in
+    record { inside = opened s (h .0) (h .1) .long; header = h; same = ap (λ (k : ℕ). ordersFrom k s 3) y }
+comes {s} budget (enter {at = at} {cs = cs} h r) l =
+    let p = byteAt s (at + 2) in
+    let v = wordAt s (at + 3) in
+    one-more s budget at cs (enters p v) (Order.Enter p v) (comes budget h (fewer cs (enters p v) budget l)) l (enter-stands s at r) (λ k. refl)
+comes {s} budget (step {at = at} {cs = cs} h r) l =
+    let p = byteAt s (at + 2) in
+    one-more s budget at cs (steps p) (Order.Step p) (comes budget h (fewer cs (steps p) budget l)) l (step-stands s at r) (λ k. refl)
+comes {s} budget (crash {at = at} {cs = cs} h r) l =
+    let p = byteAt s (at + 2) in
+    one-more s budget at cs (crashes p) (Order.Crash p) (comes budget h (fewer cs (crashes p) budget l)) l (crash-stands s at r) (λ k. refl)
+
+-- an order that is read is held
+module _ (s : List ℕ) (at : ℕ) (cs : List Call) (h : Holds s at cs) (l : at ≤ length s) where
+  here : (o : Order) → 1 ≤ width o → orderAt s at ≡ o → at < length s
+  here o w e = omega (arith, whole-order s at o l e)
+
+  held-enter : (p v : ℕ) → orderAt s at ≡ Order.Enter p v → Holds s (at + 7) (cs ++ enters p v ∷ [])
+  held-enter p v e =
+      let t = told s at (Order.Enter p v) (here (Order.Enter p v) (omega arith) e) e in
+      subst₂ (λ (q w : ℕ). Holds s (at + 7) (cs ++ enters q w ∷ [])) (t .1) (t .2) (enter h (t .0))
+
+  held-step : (p : ℕ) → orderAt s at ≡ Order.Step p → Holds s (at + 3) (cs ++ steps p ∷ [])
+  held-step p e =
+      let t = told s at (Order.Step p) (here (Order.Step p) (omega arith) e) e in
+      subst (λ (q : ℕ). Holds s (at + 3) (cs ++ steps q ∷ [])) (t .1) (step h (t .0))
+
+  held-crash : (p : ℕ) → orderAt s at ≡ Order.Crash p → Holds s (at + 3) (cs ++ crashes p ∷ [])
+  held-crash p e =
+      let t = told s at (Order.Crash p) (here (Order.Crash p) (omega arith) e) e in
+      subst (λ (q : ℕ). Holds s (at + 3) (cs ++ crashes q ∷ [])) (t .1) (crash h (t .0))
 
 -- Where reading stops, from a place on with k orders left to take: at the end, at the budget, or at a fault.
 data Why (s : List ℕ) (k : ℕ) (o : Orders) : Type 0 where
@@ -108,9 +145,9 @@ stops-then s k cs c o g =
 
 stops-by : (s : List ℕ) (k at : ℕ) (cs : List Call) → Holds s at cs → at ≤ length s
     → ((at : ℕ) (cs : List Call) → Holds s at cs → at ≤ length s → Stops s k cs (ordersFrom k s at))
-    → (o : Order) → orderAt s at ≡ o → Stops s (suc k) cs (onward s at o (ordersFrom k s))
+    → (o : Order) → orderAt s at ≡ o → Stops s (suc k) cs (orderThen s at o (ordersFrom k s))
 stops-by s k at cs h l go Order.End e =
-    ⊎-elim (λ q. stops-end s (suc k) at cs h q) (λ q. absurd (not-end s at q e)) (eq-or-lt-of-le l)
+    ⊎-elim (λ q. stops-end s (suc k) at cs h q) (λ q. absurd (told s at Order.End q e)) (eq-or-lt-of-le l)
 stops-by s k at cs h l go (Order.Fault a) e =
     ⊎-elim
     (λ q. let z : Order.End ≡ Order.Fault a = sym (order-end s at (omega arith)) ∙ e in
@@ -118,11 +155,14 @@ stops-by s k at cs h l go (Order.Fault a) e =
     (λ q. record { held = holds-none s at cs h; most = omega arith; why = fault a refl q (omega arith) e })
     (eq-or-lt-of-le l)
 stops-by s k at cs h l go (Order.Enter p v) e =
-    stops-then s k cs (enters p v) (ordersFrom k s (at + 7)) (go (at + 7) (cs ++ enters p v ∷ []) (enter h e) (whole-order s at (Order.Enter p v) l e))
+    stops-then s k cs (enters p v) (ordersFrom k s (at + 7))
+    (go (at + 7) (cs ++ enters p v ∷ []) (held-enter s at cs h l p v e) (whole-order s at (Order.Enter p v) l e))
 stops-by s k at cs h l go (Order.Step p) e =
-    stops-then s k cs (steps p) (ordersFrom k s (at + 3)) (go (at + 3) (cs ++ steps p ∷ []) (step h e) (whole-order s at (Order.Step p) l e))
+    stops-then s k cs (steps p) (ordersFrom k s (at + 3))
+    (go (at + 3) (cs ++ steps p ∷ []) (held-step s at cs h l p e) (whole-order s at (Order.Step p) l e))
 stops-by s k at cs h l go (Order.Crash p) e =
-    stops-then s k cs (crashes p) (ordersFrom k s (at + 3)) (go (at + 3) (cs ++ crashes p ∷ []) (crash h e) (whole-order s at (Order.Crash p) l e))
+    stops-then s k cs (crashes p) (ordersFrom k s (at + 3))
+    (go (at + 3) (cs ++ crashes p ∷ []) (held-crash s at cs h l p e) (whole-order s at (Order.Crash p) l e))
 
 stops : (k : ℕ) (s : List ℕ) (at : ℕ) (cs : List Call) → Holds s at cs → at ≤ length s → Stops s k cs (ordersFrom k s at)
 unfolding ordersFrom
@@ -137,7 +177,7 @@ grows-zero s at l false = omega arith
 
 grows-by : (s : List ℕ) (k at : ℕ) → at ≤ length s
     → ((at : ℕ) → at ≤ length s → at + length (ordersFrom k s at .calls) ≤ ordersFrom k s at .place)
-    → (o : Order) → orderAt s at ≡ o → at + length (onward s at o (ordersFrom k s) .calls) ≤ onward s at o (ordersFrom k s) .place
+    → (o : Order) → orderAt s at ≡ o → at + length (orderThen s at o (ordersFrom k s) .calls) ≤ orderThen s at o (ordersFrom k s) .place
 grows-by s k at l go Order.End e = omega arith
 grows-by s k at l go (Order.Fault a) e = omega arith
 grows-by s k at l go (Order.Enter p v) e = omega (arith, go (at + 7) (whole-order s at (Order.Enter p v) l e))
@@ -184,7 +224,7 @@ holds-one s at cs ds h g =
 
 -- a file whose header is read
 file-stops : (s : List ℕ) (budget n : ℕ) → headerOf s ≡ Header.Of n → Stops s budget [] (ordersFrom budget s 3)
-file-stops s budget n e = stops budget s 3 [] (start e) (opened s n e .long)
+file-stops s budget n e = stops budget s 3 [] (start (header-whole s n e)) (opened s n e .long)
 
 -- what a replay answers, by its header
 module _ (s : List ℕ) (budget : ℕ) where
@@ -286,24 +326,40 @@ pub refused-exactly : RefusedExactly
 refused-exactly s budget k at n = (λ p. refusal-by s budget k at n (headerOf s) refl (p .0) (p .1), refused-at s budget k at n)
 
 -- And 0.
-ends-by : (s : List ℕ) (budget : ℕ) (cs : List Call) → ToTheEnd s budget cs → (h : Header) → headerOf s ≡ h → Holds s (length s) cs × (length cs ≤ budget)
-ends-by s budget cs t (Header.Fault a) e = absurd (header-refused s a e (sym (ap numberOf (refused-header s budget a e .0)) ∙ t .number))
-ends-by s budget cs t (Header.Of n) e =
-    let c : ordersFrom budget s 3 .calls ≡ cs = sym (read-header s budget n e .2) ∙ t .calls in (
-      subst (λ (x : ℕ). Holds s x cs) (t .place) (subst (Holds s (replayOf s budget .place)) (t .calls) (held-calls s budget n e)),
-      omega (arith, few-calls s budget n e, ap length c),
-    )
+whole-why : (s : List ℕ) (k : ℕ) (o : Orders) → Why s k o → numberOf (o .answer) ≡ 0 → o .place ≡ length s
+whole-why s k o (whole w q) z = q
+whole-why s k o (spent w q l) z = absurd (omega (arith, ap numberOf w))
+whole-why s k o (fault a w q l f) z = absurd (told s (o .place) (Order.Fault a) q f (ap numberOf (sym w) ∙ z))
 
-ends-with : (s : List ℕ) (budget : ℕ) (cs : List Call) → Comes s budget (length s) cs → ToTheEnd s budget cs
+-- a file whose header is read
+read-zero : (s : List ℕ) (budget : ℕ) → numberOf (replayOf s budget .answer) ≡ 0 → (h : Header) → headerOf s ≡ h → (n : ℕ) × (headerOf s ≡ Header.Of n)
+read-zero s budget z (Header.Of n) e = (n, e)
+read-zero s budget z (Header.Fault a) e = absurd (header-refused s a e (sym (ap numberOf (refused-header s budget a e .0)) ∙ z))
+
+pub zero-read : (s : List ℕ) (budget : ℕ) → numberOf (replayOf s budget .answer) ≡ 0 → (n : ℕ) × (headerOf s ≡ Header.Of n)
+zero-read s budget z = read-zero s budget z (headerOf s) refl
+
+pub whole-place : WholePlace
+whole-place s budget z =
+    let h = zero-read s budget z in
+    let r = read-header s budget (h .0) (h .1) in
+    r .1 ∙ whole-why s budget (ordersFrom budget s 3) (file-stops s budget (h .0) (h .1) .why) (ap numberOf (sym (r .0)) ∙ z)
+
+ends-with : (s : List ℕ) (budget : ℕ) (cs : List Call) → Comes s budget (length s) cs
+    → (numberOf (replayOf s budget .answer) ≡ 0) × (callsOf s budget ≡ cs)
 unfolding after
 ends-with s budget cs c =
     let r = read-header s budget (c .header .0) (c .header .1) in
     let o : ordersFrom budget s 3 ≡ after cs (ended Whole (length s)) = c .same ∙ ap (after cs) (from-end (budget - length cs) s (length s) (omega arith)) in
-    record {
-      number = ap numberOf (r .0 ∙ ap (λ (x : Orders). x .answer) o);
-      place = r .1 ∙ ap (λ (x : Orders). x .place) o;
-      calls = r .2 ∙ ap (λ (x : Orders). x .calls) o ∙ append-nil cs;
-    }
+    (ap numberOf (r .0 ∙ ap (λ (x : Orders). x .answer) o), r .2 ∙ ap (λ (x : Orders). x .calls) o ∙ append-nil cs)
 
 pub whole-exactly : WholeExactly
-whole-exactly s budget cs = (λ t. ends-by s budget cs t (headerOf s) refl, λ p. ends-with s budget cs (comes budget (p .0) (p .1)))
+whole-exactly s budget cs = (
+  λ t.
+      let h = zero-read s budget (t .0) in
+      let c : ordersFrom budget s 3 .calls ≡ cs = sym (read-header s budget (h .0) (h .1) .2) ∙ t .1 in (
+        subst₂ (Holds s) (whole-place s budget (t .0)) (t .1) (held-calls s budget (h .0) (h .1)),
+        omega (arith, few-calls s budget (h .0) (h .1), ap length c),
+      ),
+  λ p. ends-with s budget cs (comes budget (p .0) (p .1)),
+)

@@ -3,24 +3,25 @@
 use Prim.Native.Nat.{ℕ, _+_, _-_, _*_, _≤_, _<_}
 use mathlib.Core.Bool.{true}
 use mathlib.Core.Path.{_≡_}
-use mathlib.Core.Logic.{_↔_}
+use mathlib.Core.Logic.{_↔_, _≢_}
 use mathlib.Core.List.{List, _++_}
-use lib.ListN.{length, getD, drop}
+use lib.ListN.{length, getD, take, drop}
 use Rattle.sets.specs.Sets.{count, size}
 use Rattle.sets.specs.Immediate.{Immediate}
+use Rattle.sets.specs.Lines.{firstThat}
 use Rattle.rules.specs.declared.Machine.{Machine}
 use Rattle.rules.specs.declared.Standing.{Standing}
 use Rattle.rules.specs.State.{stageOf, finished, foundOf}
 use Rattle.rules.specs.Shape.{Held, Words, shaped}
-use Rattle.rules.specs.Calls.{lookOf}
+use Rattle.rules.specs.Calls.{fresh, lookOf}
 use Rattle.rules.specs.Statements.{Meets}
 use Rattle.history.specs.Runs.{Call, runs, acceptedSteps, allSteps, refusedCalls, reached, given}
 use Rattle.history.specs.Views.{Has, View}
 use Rattle.history.specs.Theorems.{OfEveryRun, NeitherOneNorSeven, total}
-use Rattle.formats.specs.declared.FileAnswer.{FileAnswer}
 use Rattle.formats.specs.declared.FileAnswer.the-variants.{Whole}
-use Rattle.formats.specs.declared.Header.{Header}
-use Rattle.formats.specs.Records.{headerOf}
+use Rattle.formats.specs.Numbers.{numberOf}
+use Rattle.formats.specs.Records.{byteAt}
+use Rattle.formats.specs.Table.{headerLines}
 use Rattle.formats.specs.Views.{owns, seenBy, valueBy}
 use Rattle.formats.specs.ViewFile.{readOf, readWhole}
 use Rattle.formats.specs.Promises.{Bytes}
@@ -28,9 +29,9 @@ use Rattle.findings.specs.declared.Finding.{Finding}
 use Rattle.findings.specs.Findings.{found, checkOf}
 use Rattle.findings.specs.Verdict.{judged, verdictOf}
 use Rattle.replays.specs.declared.Replayed.{Replayed}
-use Rattle.replays.specs.Replays.{replayed, replayOf, callsOf, processesOf, noReplay}
+use Rattle.replays.specs.Replays.{replayed, replayOf, callsOf, processesOf}
 use Rattle.replays.specs.Writes.{writeNumber, viewsOf, bytesOf, writeOf, bufferOf}
-use Rattle.replays.specs.OrderFile.{orderFile, WordCalls}
+use Rattle.replays.specs.OrderFile.{orderFile, FileCalls}
 use Rattle.replays.specs.Table.{Holds}
 
 -- Document 01: "replay takes at most the budget's orders; orders taken and accesses equal the counts in the history's definition". The list of
@@ -45,17 +46,48 @@ pub record Counted (n : ℕ) (cs : List Call) (budget : ℕ) (r : Replayed) : Ty
 abbrev pub EveryFileCounted : Type 0
 EveryFileCounted = (s : List ℕ) (budget : ℕ) → Counted (processesOf s) (callsOf s budget) budget (replayOf s budget)
 
-abbrev pub EveryFileHolds : Type 0
-EveryFileHolds = (s : List ℕ) (budget n : ℕ) → headerOf s ≡ Header.Of n → Holds s (replayOf s budget .place) (callsOf s budget)
+-- Of a file whose header has no fault these are the calls that its bytes hold, on a machine of as many processes as its third byte says.
+pub record FromBytes (s : List ℕ) (budget : ℕ) : Type 0 where
+  pub processes : processesOf s ≡ byteAt s 2
+  pub calls : Holds s (replayOf s budget .place) (callsOf s budget)
 
--- The other way, every list of calls whose values four bytes can hold is the replay of a file, with any budget that is enough.
+abbrev pub EveryFileHolds : Type 0
+EveryFileHolds = (s : List ℕ) (budget : ℕ) → firstThat (headerLines s) ≡ 0 → FromBytes s budget
+
+-- The other way, every list of calls that records can carry is the replay of a file, with any budget that is enough,
 abbrev pub EveryListReplays : Type 0
-EveryListReplays = (n : ℕ) → 1 ≤ n → n ≤ 32 → (cs : List Call) → WordCalls cs → (budget : ℕ) → length cs ≤ budget
+EveryListReplays = (n : ℕ) → 1 ≤ n → n ≤ 32 → (cs : List Call) → FileCalls cs → (budget : ℕ) → length cs ≤ budget
     → replayOf (orderFile n cs) budget ≡ replayed n (record { answer = Whole; place = length (orderFile n cs); calls = cs })
 
--- "After a refused header the state is a fresh machine of one process and the three counts are 0", at every budget.
-abbrev pub RefusedHeader : Type 0
-RefusedHeader = (s : List ℕ) (budget : ℕ) (a : FileAnswer) → headerOf s ≡ Header.Fault a → replayOf s budget ≡ noReplay a
+-- and that file is bytes.
+abbrev pub OrderFileBytes : Type 0
+OrderFileBytes = (n : ℕ) → n ≤ 32 → (cs : List Call) → FileCalls cs → Bytes (orderFile n cs)
+
+-- Every file is such a file up to its place, if its header has no fault: a call that is taken is one that a record can carry, and its record has just
+-- the bytes that it is written with. `Bytes s`, here and below, leaves nothing open: every slice of bytes that a function is handed is such a list
+-- (`slice-bytes` of formats/proofs/Typed).
+pub record OfCalls (s : List ℕ) (budget : ℕ) : Type 0 where
+  pub carried : FileCalls (callsOf s budget)
+  pub bytes : take (replayOf s budget .place) s ≡ orderFile (processesOf s) (callsOf s budget)
+
+abbrev pub EveryFileOfCalls : Type 0
+EveryFileOfCalls = (s : List ℕ) → Bytes s → (budget : ℕ) → firstThat (headerLines s) ≡ 0 → OfCalls s budget
+
+-- So a file that is read whole is the file of its calls, byte for byte.
+abbrev pub WholeFileOfCalls : Type 0
+WholeFileOfCalls = (s : List ℕ) → Bytes s → (budget : ℕ) → numberOf (replayOf s budget .answer) ≡ 0 → s ≡ orderFile (processesOf s) (callsOf s budget)
+
+-- "After a refused header the state is a fresh machine of one process and the three counts are 0", at every budget: "its own faults come before 13".
+pub record NoneTaken (k : ℕ) (r : Replayed) : Type 0 where
+  pub number : numberOf (r .answer) ≡ k
+  pub place : r .place ≡ 0
+  pub taken : r .taken ≡ 0
+  pub accesses : r .accesses ≡ 0
+  pub refused : r .refused ≡ 0
+  pub state : r .machine ≡ fresh 1
+
+abbrev pub EveryRefusedHeader : Type 0
+EveryRefusedHeader = (s : List ℕ) (budget : ℕ) → firstThat (headerLines s) ≢ 0 → NoneTaken (firstThat (headerLines s)) (replayOf s budget)
 
 -- Demand 3 of a state m that a list of calls leaves of a fresh machine of n processes.
 pub record DemandThree (n : ℕ) (cs : List Call) (m : Machine) : Type 0 where
@@ -98,8 +130,13 @@ pub record AsLooked (m : Machine) (i : ℕ) : Type 0 where
   pub set : seenBy (viewsOf m) i ≡ lookOf m i .view
   pub values : (j : ℕ) → 1 ≤ j → j ≤ 32 → valueBy (viewsOf m) i j ≡ getD (lookOf m i .values) (j - 1) 0
 
+pub record ViewsLooked (m : Machine) : Type 0 where
+  pub processes : viewsOf m .n ≡ m .n
+  pub each : (i : ℕ) → 1 ≤ i → i ≤ m .n → AsLooked m i
+  pub no-other : (i : ℕ) → owns (viewsOf m) i ≡ true → (1 ≤ i) × (i ≤ m .n)
+
 abbrev pub EveryViewLooked : Type 0
-EveryViewLooked = (m : Machine) → shaped m ≡ true → (i : ℕ) → 1 ≤ i → i ≤ m .n → AsLooked m i
+EveryViewLooked = (m : Machine) → shaped m ≡ true → ViewsLooked m
 
 -- "A written view file reads back as the same views": of every well shaped machine that the declared types hold.
 abbrev pub WrittenReadsBack : Type 0
@@ -117,6 +154,6 @@ pub record Accepted (m : Machine) : Type 0 where
 abbrev pub EveryRunAccepted : Type 0
 EveryRunAccepted = OfEveryRun λ n cs. Words (runs n cs) → Accepted (runs n cs)
 
--- so of every state that an order file leaves
+-- so of every state that an order file leaves; `Bytes s` as above: a value of four bytes is then a 32-bit number
 abbrev pub EveryFileAccepted : Type 0
 EveryFileAccepted = (s : List ℕ) → Bytes s → (budget : ℕ) → Accepted (replayOf s budget .machine)

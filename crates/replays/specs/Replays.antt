@@ -26,17 +26,17 @@ abbrev pub then : Call → Orders → Orders
 then c o = record { answer = o .answer; place = o .place; calls = c ∷ o .calls }
 
 -- What stands at a place, and what follows it there. "The place is the offset of the record's mark, or the file's length when all was read."
-abbrev pub onward : List ℕ → ℕ → Order → (ℕ → Orders) → Orders
-onward s at Order.End next = ended Whole (length s)
-onward s at (Order.Fault a) next = ended a at
-onward s at (Order.Enter p v) next = then (enters p v) (next (at + 7))
-onward s at (Order.Step p) next = then (steps p) (next (at + 3))
-onward s at (Order.Crash p) next = then (crashes p) (next (at + 3))
+abbrev pub orderThen : List ℕ → ℕ → Order → (ℕ → Orders) → Orders
+orderThen s at Order.End next = ended Whole (length s)
+orderThen s at (Order.Fault a) next = ended a at
+orderThen s at (Order.Enter p v) next = then (enters p v) (next (at + 7))
+orderThen s at (Order.Step p) next = then (steps p) (next (at + 3))
+orderThen s at (Order.Crash p) next = then (crashes p) (next (at + 3))
 
 -- The orders from a place on, with a budget. "If bytes are left and the budget is used up, 13 comes before any look at the next record."
 unfoldable pub ordersFrom : ℕ → List ℕ → ℕ → Orders
 ordersFrom zero s at = cond (leb (length s) at) (ended Whole (length s)) (ended BudgetSpent at)
-ordersFrom (suc budget) s at = onward s at (orderAt s at) (ordersFrom budget s)
+ordersFrom (suc budget) s at = orderThen s at (orderAt s at) (ordersFrom budget s)
 
 -- "A replay returns number, place, orders taken, accesses made, orders refused, and the state after the orders taken." "Accesses made is the number
 -- of accepted steps." An order that the machine refuses is among the calls: it leaves the state as it was.

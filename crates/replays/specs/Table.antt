@@ -1,40 +1,47 @@
 -- Document 01's numbers 8 to 13 of an order file, apart from the definition of reading: when each applies at a record, in the order in which they
 -- are looked for. "The place is the offset of the record's mark, or the file's length when all was read."
 use Prim.Native.Nat.{ℕ, _+_, _≤_, _<_}
-use mathlib.Core.Bool.{Bool, not, _||_, cond}
+use Prim.Native.String.{String}
+use mathlib.Core.Bool.{Bool, true, not, _||_, cond}
 use mathlib.Core.Path.{_≡_}
 use mathlib.Core.Logic.{_⊎_, _↔_, _≢_}
 use mathlib.Core.List.{List, [], _∷_, _++_}
 use lib.Dec.{ltb, eqb}
 use lib.ListN.{length}
 use Rattle.history.specs.Runs.{Call, enters, steps, crashes}
-use Rattle.formats.specs.declared.Header.{Header}
-use Rattle.formats.specs.declared.Order.{Order}
 use Rattle.formats.specs.Numbers.{numberOf}
-use Rattle.formats.specs.Records.{byteAt, isMark, headerOf, orderAt}
+use Rattle.formats.specs.Records.{byteAt, wordAt, reads}
 use Rattle.sets.specs.Lines.{Line, when, firstThat}
 use Rattle.formats.specs.Table.{headerLines}
 use Rattle.replays.specs.Replays.{replayOf, callsOf}
 
--- the mark at a place is a, b
-abbrev pub marked : List ℕ → ℕ → ℕ → ℕ → Bool
-marked s at a b = isMark a b (byteAt s at) (byteAt s (at + 1))
+-- the mark at a place
+abbrev pub marked : List ℕ → ℕ → String → Bool
+marked s at t = reads t (byteAt s at) (byteAt s (at + 1))
 
 -- a later record, at a place where bytes are left: `MN`; a mark other than `EN`, `ST` and `CR`; a body cut off
 abbrev pub orderLines : List ℕ → ℕ → List Line
 orderLines s at =
     when 11 (eqb (length s) (at + 1))
-    ∷ when 12 (marked s at 77 78)
-    ∷ when 10 (not (marked s at 69 78 || marked s at 83 84 || marked s at 67 82))
-    ∷ when 11 (cond (marked s at 69 78) (ltb (length s) (at + 7)) (ltb (length s) (at + 3)))
+    ∷ when 12 (marked s at "MN")
+    ∷ when 10 (not (marked s at "EN" || marked s at "ST" || marked s at "CR"))
+    ∷ when 11 (cond (marked s at "EN") (ltb (length s) (at + 7)) (ltb (length s) (at + 3)))
     ∷ []
 
--- the calls that the records of a file hold from its header up to a place
+-- a record with this mark stands whole at a place: bytes are left there, and no line applies
+pub record Stands (s : List ℕ) (at : ℕ) (t : String) : Type 0 where
+  pub left : at < length s
+  pub whole : firstThat (orderLines s at) ≡ 0
+  pub mark : marked s at t ≡ true
+
+-- The calls that the records of a file hold from its header up to a place: the process is the byte after the mark, the value the number in the four
+-- bytes after that.
 pub data Holds (s : List ℕ) : ℕ → List Call → Type 0 where
-  start : {n : ℕ} → headerOf s ≡ Header.Of n → Holds s 3 []
-  enter : {at : ℕ} {cs : List Call} {p v : ℕ} → Holds s at cs → orderAt s at ≡ Order.Enter p v → Holds s (at + 7) (cs ++ enters p v ∷ [])
-  step : {at : ℕ} {cs : List Call} {p : ℕ} → Holds s at cs → orderAt s at ≡ Order.Step p → Holds s (at + 3) (cs ++ steps p ∷ [])
-  crash : {at : ℕ} {cs : List Call} {p : ℕ} → Holds s at cs → orderAt s at ≡ Order.Crash p → Holds s (at + 3) (cs ++ crashes p ∷ [])
+  start : firstThat (headerLines s) ≡ 0 → Holds s 3 []
+  enter : {at : ℕ} {cs : List Call} → Holds s at cs → Stands s at "EN"
+      → Holds s (at + 7) (cs ++ enters (byteAt s (at + 2)) (wordAt s (at + 3)) ∷ [])
+  step : {at : ℕ} {cs : List Call} → Holds s at cs → Stands s at "ST" → Holds s (at + 3) (cs ++ steps (byteAt s (at + 2)) ∷ [])
+  crash : {at : ℕ} {cs : List Call} → Holds s at cs → Stands s at "CR" → Holds s (at + 3) (cs ++ crashes (byteAt s (at + 2)) ∷ [])
 
 -- a place has one such list
 abbrev pub HoldsOne : Type 0
@@ -53,11 +60,11 @@ abbrev pub RefusedExactly : Type 0
 RefusedExactly = (s : List ℕ) (budget k at : ℕ) → k ≢ 0
     → ((numberOf (replayOf s budget .answer) ≡ k) × (replayOf s budget .place ≡ at)) ↔ Refusal s budget k at
 
--- and 0 exactly when the calls up to the file's end are within the budget: they are then the calls made
-pub record ToTheEnd (s : List ℕ) (budget : ℕ) (cs : List Call) : Type 0 where
-  pub number : numberOf (replayOf s budget .answer) ≡ 0
-  pub place : replayOf s budget .place ≡ length s
-  pub calls : callsOf s budget ≡ cs
-
+-- and 0 exactly when the records up to the file's end hold calls within the budget: they are then the calls made
 abbrev pub WholeExactly : Type 0
-WholeExactly = (s : List ℕ) (budget : ℕ) (cs : List Call) → ToTheEnd s budget cs ↔ (Holds s (length s) cs × (length cs ≤ budget))
+WholeExactly = (s : List ℕ) (budget : ℕ) (cs : List Call)
+    → ((numberOf (replayOf s budget .answer) ≡ 0) × (callsOf s budget ≡ cs)) ↔ (Holds s (length s) cs × (length cs ≤ budget))
+
+-- "or the file's length when all was read"
+abbrev pub WholePlace : Type 0
+WholePlace = (s : List ℕ) (budget : ℕ) → numberOf (replayOf s budget .answer) ≡ 0 → replayOf s budget .place ≡ length s

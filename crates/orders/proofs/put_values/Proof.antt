@@ -44,15 +44,15 @@ add-member c = search needs
 has-requires : tie.Need-has-requires Inv-loop μ-loop
 has-requires c κs = search needs
 
-mul-put-word : tie.Need-mul-put-word Inv-loop μ-loop
-mul-put-word c = search needs
+mul-put-number : tie.Need-mul-put-number Inv-loop μ-loop
+mul-put-number c = search needs
 
-element-copy-out-put-word : tie.Need-element-copy-out-put-word Inv-loop μ-loop
-element-copy-out-put-word c = search needs
+element-copy-out-put-number : tie.Need-element-copy-out-put-number Inv-loop μ-loop
+element-copy-out-put-number c = search needs
 
 -- Where the member is in the view: the values, the level and the view, and the loop's state.
 abbrev Here : Type 0
-Here = tie.After-put-word-arg Inv-loop μ-loop
+Here = tie.After-put-number-arg Inv-loop μ-loop
 
 abbrev Values : Here → List ℕ
 Values d = now (d .before .before .before .before .before .before .args .values)
@@ -80,8 +80,8 @@ room d =
     let fits = left-fits f (now (a .buffer)) (a .at) (l .buffer) (l .place) (l .member) (l .inv) h in
     omega (arith, fits, ap length (member d), values-length (Values d) (X d) (W d))
 
-put-word-requires : tie.Need-put-word-requires Inv-loop μ-loop
-put-word-requires c κs =
+put-number-requires : tie.Need-put-number-requires Inv-loop μ-loop
+put-number-requires c κs =
     let l = c .before .before .before .before .before in
     omega (arith, room (c .before), l .loop .inv .same, l .before .before .pre .0)
 
@@ -101,9 +101,9 @@ loop-again c =
     let l = d .before .before .before .before .loop in
     let f = memberBytes (Values d) (X d) (W d) in
     let four : l .place + 4 ≡ l .place + length (f (J d + 1)) = sym (ap (λ (x : List ℕ). l .place + length x) (member d)) in
-    let stored = c .before .before .put-word .ensures ∙ ap (put (l .buffer) (l .place)) (sym (member d)) in
+    let stored = c .before .before .put-number .ensures ∙ ap (put (l .buffer) (l .place)) (sym (member d)) in
     left-next f (now (a .buffer)) (a .at) (l .buffer) (l .place) (l .member) (l .inv) (d .before .before .before .loop-test .taken)
-    (c .before .before .put-word .last .0) (l .place + 4) stored four
+    (c .before .before .put-number .last .0) (l .place + 4) stored four
 
 loop-less-2 : tie.Need-loop-less-2 Inv-loop μ-loop
 loop-less-2 c = search needs
@@ -142,9 +142,9 @@ put-values-spec =
     cast-k
     add-member
     has-requires
-    mul-put-word
-    element-copy-out-put-word
-    put-word-requires
+    mul-put-number
+    element-copy-out-put-number
+    put-number-requires
     add-place
     loop-less
     loop-again

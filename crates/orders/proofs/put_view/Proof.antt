@@ -26,18 +26,18 @@ add-buffer-2 c = search needs
 slice-write-buffer-3 : tie.Need-slice-write-buffer-3
 slice-write-buffer-3 c = simp length-set (omega arith)
 
-add-put-word : tie.Need-add-put-word
-add-put-word c = search needs
+add-put-number : tie.Need-add-put-number
+add-put-number c = search needs
 
-put-word-requires : tie.Need-put-word-requires
-put-word-requires c κs = simp length-set (omega arith)
+put-number-requires : tie.Need-put-number-requires
+put-number-requires c κs = simp length-set (omega arith)
 
 add-put-values : tie.Need-add-put-values
 add-put-values c = search needs
 
 -- the buffer is as long as it was
-kept : (c : tie.After-put-word) → length (c .put-word .last .0) ≡ length (now (c .before .before .before .args .buffer))
-kept c = c .put-word .kept .0 ∙ simp length-set
+kept : (c : tie.After-put-number) → length (c .put-number .last .0) ≡ length (now (c .before .before .before .args .buffer))
+kept c = c .put-number .kept .0 ∙ simp length-set
 
 put-values-requires : tie.Need-put-values-requires
 put-values-requires c κs =
@@ -52,7 +52,7 @@ returns c =
     let a = c .before .before .before .before .before .before .before .before .before .args in (
       omega (arith, c .before .before .put-values .ensures .0),
       put-record (now (a .values)) (now (a .buffer)) _ _ _ (a .at) (a .p) (a .level) (a .view) refl
-          (c .before .before .before .before .before .before .put-word .ensures) (c .before .before .put-values .ensures .1),
+          (c .before .before .before .before .before .before .put-number .ensures) (c .before .before .put-values .ensures .1),
     )
 
 pub put-view-spec : {M : Type 1} → statement M
@@ -65,8 +65,8 @@ put-view-spec =
     cast-buffer
     add-buffer-2
     slice-write-buffer-3
-    add-put-word
-    put-word-requires
+    add-put-number
+    put-number-requires
     add-put-values
     put-values-requires
     same-length

@@ -8,6 +8,7 @@ use Rattle.rules.specs.declared.Stage.the-variants.{Absent, Running, Finished, 
 use Rattle.rules.specs.declared.Machine.{Machine}
 use Rattle.rules.specs.State.{stageOf, cellIn}
 use Rattle.formats.specs.Records.{wordBytes}
+use Rattle.text.specs.Ascii.{ascii}
 use Rattle.text.specs.Parts.{joined}
 
 -- the value that the view w at level x has for process j, if it names j
@@ -16,7 +17,7 @@ memberBytes values x w j = cond (has w j) (wordBytes (cellIn values x j)) []
 
 -- the record of process i, which finished at level x with the view w
 unfoldable pub recordBytes : List ℕ → ℕ → ℕ → ℕ → List ℕ
-recordBytes values i x w = 86 ∷ 87 ∷ i ∷ wordBytes w ++ joined 1 32 (memberBytes values x w)
+recordBytes values i x w = ascii "VW" ++ i ∷ wordBytes w ++ joined 1 32 (memberBytes values x w)
 
 abbrev pub stageBytes : List ℕ → ℕ → Stage → List ℕ
 stageBytes values i Absent = []
@@ -29,7 +30,7 @@ abbrev pub partOf : Machine → ℕ → List ℕ
 partOf m i = stageBytes (m .values) i (stageOf m i)
 
 unfoldable pub machineBytes : Machine → List ℕ
-machineBytes m = 77 ∷ 78 ∷ m .n ∷ joined 1 32 (partOf m)
+machineBytes m = ascii "MN" ++ m .n ∷ joined 1 32 (partOf m)
 
 -- how many bytes a record has
 abbrev pub recordLength : Stage → ℕ

@@ -1,4 +1,4 @@
--- `orders::put_word` meets its contract.
+-- `orders::put_number` meets its contract.
 use Prim.Native.Nat.{ℕ, _+_, _/_, _%_}
 use mathlib.Core.Path.{_≡_, ap₂}
 use native.Mathlib.Omega.{arith}
@@ -6,8 +6,8 @@ use lib.ListN.{set, length-set}
 use denote.Ref.{now}
 use Rattle.text.specs.Stores.{put}
 use borrow.Author.Needs.{needs}
-use Rattle.orders.proofs.put_word.Statement.{statement}
-use Rattle.orders.proofs.put_word.Tie as tie
+use Rattle.orders.proofs.put_number.Statement.{statement}
+use Rattle.orders.proofs.put_number.Tie as tie
 
 cast-buffer : tie.Need-cast-buffer
 cast-buffer c = search needs
@@ -55,8 +55,8 @@ returns c =
     (λ (p q : ℕ). set (set (set (set (now (a .buffer)) (a .at) (a .x % 256)) (a .at + 1) (a .x / 256 % 256)) p (a .x / 65536 % 256)) q (a .x / 16777216 % 256))
     two three
 
-pub put-word-spec : {M : Type 1} → statement M
-put-word-spec =
+pub put-number-spec : {M : Type 1} → statement M
+put-number-spec =
     tie.close
     (tie.spec
     cast-buffer
