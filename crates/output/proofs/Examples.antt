@@ -34,10 +34,11 @@ use Rattle.findings.specs.Examples.{p10}
 use Rattle.replays.specs.Examples.{printedFile}
 use Rattle.replays.proofs.Promises.{refused-header}
 use Rattle.replays.proofs.Turns.{resumed-took, resumed-ended, resumed-none}
+use Rattle.text.specs.Ascii.{ascii, lines}
 use Rattle.text.specs.Decimal.{digitsIn, decimal}
 use Rattle.output.specs.Lines.{fields, line, run, pair, pairsFrom, sightLine, processLine, runLine, partaking, lastLine}
 use Rattle.output.specs.Lines.{replayLines, replayText, verdictLine, verdictText}
-use Rattle.output.specs.Examples.{Texts, printed, nobodyThere, refusedHeader, RefusedHeaderPrints}
+use Rattle.output.specs.Examples.{Texts, printed, nobodyThere, RefusedHeaderPrints}
 use Rattle.text.proofs.Decimal.{decimal-below, decimal-above}
 use Rattle.output.proofs.ByLength.{replay-short, replay-long, verdict-long}
 
@@ -114,16 +115,16 @@ refused-header-prints s a h e =
     replay-short s h ∙ ap replayLines (refused-header s 65535 a e)
     ∙ ap (λ (l : List ℕ). line (run ∷ fields (numberOf a ∷ 0 ∷ 0 ∷ 0 ∷ 0 ∷ []) ∷ []) ++ l) nobody-there
 
-refused-33 : replayText (MN 33) ≡ refusedHeader
+refused-33 : replayText (MN 33) ≡ lines ("run 8 0 0 0 0" ∷ "p 1 absent 0 0 -" ∷ "participants 0" ∷ [])
 unfolding headerOf markAt markOf decimal digitsIn
 refused-33 = refused-header-prints (MN 33) OutOfRange (lit≤ tt) refl
 
-unlike-views : verdictText p10 ≡ 118 ∷ 101 ∷ 114 ∷ 100 ∷ 105 ∷ 99 ∷ 116 ∷ 32 ∷ 50 ∷ 50 ∷ 32 ∷ 51 ∷ 55 ∷ 32 ∷ 49 ∷ 32 ∷ 50 ∷ 10 ∷ []
+unlike-views : verdictText p10 ≡ lines ("verdict 22 37 1 2" ∷ [])
 unfolding verdictText verdictLine decimal digitsIn verdictOf checkOf findings ofOne ofPair breaks agree inside joined readOf readFrom headerOf viewAt markAt markOf
     testedAt valuesRead has plus first every count within size
 unlike-views = refl
 
-nothing : verdictText [] ≡ 118 ∷ 101 ∷ 114 ∷ 100 ∷ 105 ∷ 99 ∷ 116 ∷ 32 ∷ 57 ∷ 32 ∷ 48 ∷ 32 ∷ 48 ∷ 32 ∷ 48 ∷ 10 ∷ []
+nothing : verdictText [] ≡ lines ("verdict 9 0 0 0" ∷ [])
 unfolding verdictText verdictLine decimal digitsIn verdictOf readOf headerOf markAt markOf
 nothing = refl
 
@@ -131,7 +132,7 @@ nothing = refl
 digit-more : (n : ℕ) {ds : List ℕ} → 10 ≤ n → decimal (n / 10) ≡ ds → decimal n ≡ ds ++ (48 + n % 10) ∷ []
 digit-more n h e = decimal-above n h ∙ ap (λ (x : List ℕ). x ++ (48 + n % 10) ∷ []) e
 
-largest : decimal 4294967295 ≡ 52 ∷ 50 ∷ 57 ∷ 52 ∷ 57 ∷ 54 ∷ 55 ∷ 50 ∷ 57 ∷ 53 ∷ []
+largest : decimal 4294967295 ≡ ascii "4294967295"
 largest =
     digit-more 4294967295 (lit≤ tt) (digit-more 429496729 (lit≤ tt)
     (digit-more 42949672 (lit≤ tt) (digit-more 4294967 (lit≤ tt)
