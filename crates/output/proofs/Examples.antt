@@ -1,8 +1,8 @@
 -- The printed texts, computed. The machine's test of its own shape is dear to compute, so the printed run is first rid of it.
-use Prim.Native.Nat.{ℕ, zero, suc, _+_, _/_, _%_, _≤_}
+use Prim.Native.Nat.{ℕ, zero, suc, _+_, _≤_}
 use mathlib.Core.Path.{_≡_, refl, sym, ap, _∙_}
 use mathlib.Core.List.{List, [], _∷_, _++_}
-use lib.Dec.{lit≤, lit<}
+use lib.Dec.{lit≤}
 use lib.ListN.{length}
 use Rattle.sets.specs.Sets.{has, plus, first, every, count, within, size}
 use Rattle.rules.specs.declared.Machine.{Machine}
@@ -34,12 +34,11 @@ use Rattle.findings.specs.Examples.{p10}
 use Rattle.replays.specs.Examples.{printedFile}
 use Rattle.replays.proofs.Promises.{refused-header}
 use Rattle.replays.proofs.Turns.{resumed-took, resumed-ended, resumed-none}
-use Rattle.text.specs.Ascii.{ascii, lines}
+use Rattle.text.specs.Ascii.{lines}
 use Rattle.text.specs.Decimal.{digitsIn, decimal}
 use Rattle.output.specs.Lines.{fields, line, run, pair, pairsFrom, sightLine, processLine, runLine, partaking, lastLine}
 use Rattle.output.specs.Lines.{replayLines, replayText, verdictLine, verdictText}
 use Rattle.output.specs.Examples.{Texts, printed, nobodyThere, RefusedHeaderPrints}
-use Rattle.text.proofs.Decimal.{decimal-below, decimal-above}
 use Rattle.output.proofs.ByLength.{replay-short, replay-long, verdict-long}
 
 -- an order of a well shaped machine, without the test
@@ -128,17 +127,6 @@ nothing : verdictText [] ≡ lines ("verdict 9 0 0 0" ∷ [])
 unfolding verdictText verdictLine decimal digitsIn verdictOf readOf headerOf markAt markOf
 nothing = refl
 
--- one digit more
-digit-more : (n : ℕ) {ds : List ℕ} → 10 ≤ n → decimal (n / 10) ≡ ds → decimal n ≡ ds ++ (48 + n % 10) ∷ []
-digit-more n h e = decimal-above n h ∙ ap (λ (x : List ℕ). x ++ (48 + n % 10) ∷ []) e
-
-largest : decimal 4294967295 ≡ ascii "4294967295"
-largest =
-    digit-more 4294967295 (lit≤ tt) (digit-more 429496729 (lit≤ tt)
-    (digit-more 42949672 (lit≤ tt) (digit-more 4294967 (lit≤ tt)
-    (digit-more 429496 (lit≤ tt) (digit-more 42949 (lit≤ tt)
-    (digit-more 4294 (lit≤ tt) (digit-more 429 (lit≤ tt) (digit-more 42 (lit≤ tt) (decimal-below 4 (lit< tt))))))))))
-
 pub texts : Texts
 texts =
     record {
@@ -148,5 +136,4 @@ texts =
       nothing = nothing;
       long-orders = replay-long;
       long-views = verdict-long;
-      largest = largest;
     }

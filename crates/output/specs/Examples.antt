@@ -10,8 +10,7 @@ use Rattle.formats.specs.Records.{headerOf}
 use Rattle.formats.specs.Examples.{MN}
 use Rattle.findings.specs.Examples.{p10}
 use Rattle.replays.specs.Examples.{printedFile}
-use Rattle.text.specs.Ascii.{ascii, lines}
-use Rattle.text.specs.Decimal.{decimal}
+use Rattle.text.specs.Ascii.{lines}
 use Rattle.output.specs.Lines.{fields, line, run, replayText, verdictText}
 
 abbrev pub printed : List ℕ
@@ -33,5 +32,3 @@ pub record Texts : Type 0 where
   -- one byte more than 65,535, whatever the bytes are
   pub long-orders : (s : List ℕ) → 65535 < length s → replayText s ≡ lines ("too long" ∷ [])
   pub long-views : (s : List ℕ) → 65535 < length s → verdictText s ≡ lines ("too long" ∷ [])
-  -- the largest value that a register holds
-  pub largest : decimal 4294967295 ≡ ascii "4294967295"
