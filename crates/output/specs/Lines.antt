@@ -6,7 +6,6 @@ use mathlib.Core.List.{List, [], _∷_, _++_}
 use lib.Dec.{leb}
 use lib.ListN.{length, getD}
 use Rattle.sets.specs.Sets.{has, count}
-use Rattle.rules.specs.declared.Stage.{Stage}
 use Rattle.rules.specs.declared.Standing.{Standing}
 use Rattle.rules.specs.declared.Standing.the-variants.{Absent, Running, Finished, Crashed}
 use Rattle.rules.specs.declared.Machine.{Machine}
@@ -93,11 +92,8 @@ runLine r =
     line (run ∷ fields (numberOf (r .answer) ∷ r .place ∷ r .taken ∷ r .accesses ∷ r .refused ∷ []) ∷ [])
 
 -- "Last: `participants` and how many processes have entered."
-abbrev pub takesPart : Stage → Bool
-takesPart = entered
-
 unfoldable pub partaking : Machine → ℕ
-partaking m = count (λ i. takesPart (stageOf m i)) (m .n)
+partaking m = count (λ i. entered (stageOf m i)) (m .n)
 
 unfoldable pub lastLine : Machine → List ℕ
 lastLine m = line (participants ∷ fields (partaking m ∷ []) ∷ [])

@@ -10,13 +10,13 @@ use Rattle.sets.specs.Sets.{count, tick}
 use Rattle.rules.specs.declared.Machine.{Machine}
 use Rattle.rules.specs.declared.Sight.{Sight}
 use Rattle.rules.specs.declared.Answer.the-variants.{NoProcess, NotShaped}
-use Rattle.rules.specs.State.{nobody, stageOf}
+use Rattle.rules.specs.State.{nobody, stageOf, entered}
 use Rattle.rules.specs.Shape.{Shaped}
 use Rattle.rules.specs.Calls.{looked, unseen, lookOf}
 use Rattle.rules.proofs.Laws.Shape.{record-shaped}
 use Rattle.text.specs.Parts.{joined}
 use Rattle.text.proofs.Parts.{joined-at}
-use Rattle.output.specs.Lines.{sightLine, processLine, takesPart, partaking}
+use Rattle.output.specs.Lines.{sightLine, processLine, partaking}
 use Rattle.text.specs.Stores.{Room, Stored}
 use Rattle.text.proofs.Stores.{then, stored-none, stored-as, stored-length}
 
@@ -70,7 +70,7 @@ lines-all {m} {b₀} {b} {at} {place} {i} l h =
 pub record Partakers (m : Machine) (sum i : ℕ) : Type 0 where
   pub most : i ≤ m .n
   pub few : sum ≤ i
-  pub counted : sum ≡ count (λ j. takesPart (stageOf m j)) i
+  pub counted : sum ≡ count (λ j. entered (stageOf m j)) i
 
 pub partakers-none : (m : Machine) → Partakers m 0 0
 unfolding count
@@ -79,22 +79,22 @@ partakers-none m = record { most = omega arith; few = omega arith; counted = ref
 tick-one : (t : Bool) → tick t ≤ 1
 tick-one t = elim t [ true ↦ omega arith | false ↦ omega arith ]
 
-pub partakers-more : {m : Machine} {sum i : ℕ} → Partakers m sum i → i < m .n → {k : ℕ} → k ≡ tick (takesPart (getD (m .processes) i nobody .stage))
+pub partakers-more : {m : Machine} {sum i : ℕ} → Partakers m sum i → i < m .n → {k : ℕ} → k ≡ tick (entered (getD (m .processes) i nobody .stage))
     → Partakers m (sum + k) (i + 1)
 unfolding count
 partakers-more {m} {sum} {i} l h {k} e =
     let s : i + 1 ≡ suc i = omega arith in
     let j : suc i - 1 ≡ i = omega arith in
-    let f : ℕ → Bool = λ q. takesPart (stageOf m q) in
+    let f : ℕ → Bool = λ q. entered (stageOf m q) in
     let c : count f (i + 1) ≡ tick (f (suc i)) + count f i = ap (count f) s in
-    let d : tick (f (suc i)) ≡ k = ap (λ (q : ℕ). tick (takesPart (getD (m .processes) q nobody .stage))) j ∙ sym e in
+    let d : tick (f (suc i)) ≡ k = ap (λ (q : ℕ). tick (entered (getD (m .processes) q nobody .stage))) j ∙ sym e in
     record {
       most = omega arith;
-      few = omega (arith, l .few, tick-one (takesPart (getD (m .processes) i nobody .stage)));
+      few = omega (arith, l .few, tick-one (entered (getD (m .processes) i nobody .stage)));
       counted = omega
           (arith, l .counted);
     }
 
 pub partakers-all : {m : Machine} {sum i : ℕ} → Partakers m sum i → m .n ≤ i → sum ≡ partaking m
 unfolding partaking
-partakers-all {m} {sum} {i} l h = let e : i ≡ m .n = omega (arith, l .most) in l .counted ∙ ap (count (λ j. takesPart (stageOf m j))) e
+partakers-all {m} {sum} {i} l h = let e : i ≡ m .n = omega (arith, l .most) in l .counted ∙ ap (count (λ j. entered (stageOf m j))) e

@@ -1,7 +1,6 @@
 -- Numbers in digits, computed.
-use mathlib.Core.Path.{_≡_, refl}
-use Rattle.text.specs.Ascii.{ascii}
-use Rattle.text.specs.Decimal.{digitsIn, decimal, readOn, readBack, Decimals}
+use mathlib.Core.Path.{refl}
+use Rattle.text.specs.Decimal.{digitsIn, decimal, readOn, Decimals}
 
 pub decimals : Decimals
 unfolding digitsIn decimal readOn
