@@ -1,7 +1,7 @@
 -- The printed texts, computed. The machine's test of its own shape is dear to compute, so the printed run is first rid of it.
 use Prim.Native.Nat.{ℕ, _≤_}
 use mathlib.Core.Path.{_≡_, refl, ap, _∙_}
-use mathlib.Core.List.{List, [], _∷_, _++_}
+use mathlib.Core.List.{List, [], _∷_}
 use lib.Dec.{lit≤}
 use lib.ListN.{length}
 use Rattle.sets.specs.Sets.{has, plus, first, every, count, within, size}
@@ -11,7 +11,6 @@ use Rattle.history.specs.Runs.{stepTaken, notTaken}
 use Rattle.history.proofs.Bare.{bareAnswer, Trace, traceBy, trace-bare, end, tallied, from-end, tally-tallied}
 use Rattle.formats.specs.declared.FileAnswer.the-variants.{OutOfRange}
 use Rattle.formats.specs.declared.Header.{Header}
-use Rattle.formats.specs.Numbers.{numberOf}
 use Rattle.formats.specs.Records.{markOf, markAt, headerOf, orderAt, viewAt}
 use Rattle.formats.specs.ViewFile.{testedAt, valuesRead, readFrom, readOf}
 use Rattle.formats.specs.Examples.{MN}
@@ -25,10 +24,11 @@ use Rattle.replays.proofs.Promises.{refused-header}
 use Rattle.text.specs.Ascii.{lines}
 use Rattle.text.specs.Decimal.{digitsIn, decimal}
 use Rattle.text.specs.Parts.{joined}
-use Rattle.output.specs.Lines.{fields, line, run, pair, pairsFrom, sightLine, processLine, runLine, partaking, lastLine}
+use Rattle.output.specs.Lines.{pair, pairsFrom, sightLine, processLine, runLine, partaking, lastLine}
 use Rattle.output.specs.Lines.{replayLines, replayText, verdictLine, verdictText}
-use Rattle.output.specs.Examples.{Texts, printed, nobodyThere, RefusedHeaderPrints}
-use Rattle.output.proofs.ByLength.{replay-short, replay-long, verdict-long}
+use Rattle.output.specs.Examples.{p2File, largestFile, p7File, runningFile, absentFile, tenFile, cutFile, Texts}
+use Rattle.output.proofs.ByLength.{replay-short}
+use Rattle.output.proofs.Headers.{refused-header-prints}
 
 -- what a replay answers, read off the trace of its calls
 abbrev traced : Orders → Trace → Replayed
@@ -60,25 +60,6 @@ unfolding replayOf
 prints s n h e low high t =
     replay-short s h ∙ ap (λ (x : Header). replayLines (replayBy s 65535 x)) e ∙ ap replayLines (replayed-bare n low high (ordersFrom 65535 s 3)) ∙ t
 
-printed-lines : replayLines (bare 2 (ordersFrom 65535 printedFile 3)) ≡ printed
-unfolding replayLines runLine ordersFrom orderAt markAt markOf traceBy bareAnswer access settle reading has plus count size joined processLine sightLine rowValues
-    pairsFrom pair decimal digitsIn lastLine partaking
-printed-lines = refl
-
-printed-run : replayText printedFile ≡ printed
-unfolding headerOf markAt markOf
-printed-run = prints printedFile 2 (lit≤ tt) refl (lit≤ tt) (lit≤ tt) printed-lines
-
-nobody-there : joined 1 1 (processLine (fresh 1)) ++ lastLine (fresh 1) ≡ nobodyThere
-unfolding joined processLine sightLine decimal digitsIn lastLine partaking count
-nobody-there = refl
-
-pub refused-header-prints : RefusedHeaderPrints
-unfolding replayLines runLine
-refused-header-prints s a h e =
-    replay-short s h ∙ ap replayLines (refused-header s 65535 a e)
-    ∙ ap (λ (l : List ℕ). line (run ∷ fields (numberOf a ∷ 0 ∷ 0 ∷ 0 ∷ 0 ∷ []) ∷ []) ++ l) nobody-there
-
 refused-33 : replayText (MN 33) ≡ lines ("run 8 0 0 0 0" ∷ "p 1 absent 0 0 -" ∷ "participants 0" ∷ [])
 unfolding headerOf markAt markOf decimal digitsIn
 refused-33 = refused-header-prints (MN 33) OutOfRange (lit≤ tt) refl
@@ -93,12 +74,19 @@ unfolding verdictText verdictLine decimal digitsIn verdictOf readOf headerOf mar
 nothing = refl
 
 pub texts : Texts
+unfolding replayLines runLine headerOf ordersFrom orderAt markAt markOf traceBy bareAnswer access settle reading has plus count size joined processLine sightLine
+    rowValues pairsFrom pair decimal digitsIn lastLine partaking
 texts =
     record {
-      printed-run = printed-run;
+      printed-run = prints printedFile 2 (lit≤ tt) refl (lit≤ tt) (lit≤ tt) refl;
+      p2 = prints p2File 1 (lit≤ tt) refl (lit≤ tt) (lit≤ tt) refl;
+      largest = prints largestFile 1 (lit≤ tt) refl (lit≤ tt) (lit≤ tt) refl;
+      p7 = prints p7File 3 (lit≤ tt) refl (lit≤ tt) (lit≤ tt) refl;
+      running = prints runningFile 2 (lit≤ tt) refl (lit≤ tt) (lit≤ tt) refl;
+      absent = prints absentFile 2 (lit≤ tt) refl (lit≤ tt) (lit≤ tt) refl;
+      ten = prints tenFile 10 (lit≤ tt) refl (lit≤ tt) (lit≤ tt) refl;
+      cut = prints cutFile 1 (lit≤ tt) refl (lit≤ tt) (lit≤ tt) refl;
       refused-header = refused-33;
       unlike-views = unlike-views;
       nothing = nothing;
-      long-orders = replay-long;
-      long-views = verdict-long;
     }

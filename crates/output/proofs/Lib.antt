@@ -1,4 +1,5 @@
--- What the texts are by the length of the input; what is promised of the lines; examples.
+-- What the texts are by the length of the input; what is promised of them; examples.
 pub mod ByLength
+pub mod Headers
 pub mod Participants
 pub mod Examples

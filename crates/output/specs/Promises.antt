@@ -1,13 +1,29 @@
--- What is promised of the printed lines, of every order file. `proofs/` proves each, under the same name in small letters, with hyphens.
-use Prim.Native.Nat.{ℕ}
+-- What is promised of the printed texts. `proofs/` proves each, under the same name in small letters, with hyphens.
+use Prim.Native.Nat.{ℕ, _≤_, _<_}
 use mathlib.Core.Path.{_≡_}
+use mathlib.Core.Logic.{_↔_}
 use mathlib.Core.List.{List, [], _∷_, _++_}
+use lib.ListN.{length}
 use Rattle.sets.specs.Sets.{count}
 use Rattle.history.specs.Runs.{hasEntered}
+use Rattle.formats.specs.declared.FileAnswer.{FileAnswer}
+use Rattle.formats.specs.declared.Header.{Header}
+use Rattle.formats.specs.Numbers.{numberOf}
+use Rattle.formats.specs.Records.{headerOf}
 use Rattle.replays.specs.Replays.{replayOf, callsOf, processesOf}
-use Rattle.text.specs.Ascii.{ascii}
+use Rattle.text.specs.Ascii.{ascii, lines}
 use Rattle.text.specs.Decimal.{decimal}
-use Rattle.output.specs.Lines.{lastLine}
+use Rattle.output.specs.Lines.{lastLine, replayText, verdictText}
+
+-- "Both programs take at most 65,535 bytes; for more they print `too long` and nothing else."
+abbrev pub TooLongExactly : Type 0
+TooLongExactly = (s : List ℕ)
+    → ((replayText s ≡ lines ("too long" ∷ [])) ↔ (65535 < length s)) × ((verdictText s ≡ lines ("too long" ∷ [])) ↔ (65535 < length s))
+
+-- "A refused header prints the process line `p 1 absent 0 0 -`": every one, after the line `run`, its number, and 0 four times.
+abbrev pub RefusedHeaderPrints : Type 0
+RefusedHeaderPrints = (s : List ℕ) (a : FileAnswer) → length s ≤ 65535 → headerOf s ≡ Header.Fault a
+    → replayText s ≡ ascii "run " ++ (decimal (numberOf a) ++ lines (" 0 0 0 0" ∷ "p 1 absent 0 0 -" ∷ "participants 0" ∷ []))
 
 -- "Last: `participants` and how many processes have entered": those of 1 to n of whom the list of calls that the file holds has an accepted enter,
 -- whether they crashed or finished since or not; at every budget.
