@@ -2,4 +2,5 @@
 pub mod ByLength
 pub mod Headers
 pub mod Participants
+pub mod Views
 pub mod Examples

@@ -78,10 +78,12 @@ view Running w values = ascii "-"
 view Finished w values = pairsFrom false w values 1 32
 view Crashed w values = ascii "-"
 
+abbrev pub viewText : Sight → List ℕ
+viewText s = view (s .standing) (s .view) (s .values)
+
 -- "Then for each process, ascending: `p`, number, stage, level, accesses, view": what a look at the process shows
 unfoldable pub sightLine : ℕ → Sight → List ℕ
-sightLine i s =
-    line (p ∷ field i ∷ stageWord (s .standing) ∷ field (s .level) ∷ field (s .accesses) ∷ (ascii " " ++ view (s .standing) (s .view) (s .values)) ∷ [])
+sightLine i s = line (p ∷ field i ∷ stageWord (s .standing) ∷ field (s .level) ∷ field (s .accesses) ∷ (ascii " " ++ viewText s) ∷ [])
 
 unfoldable pub processLine : Machine → ℕ → List ℕ
 processLine m i = sightLine i (looked m (stageOf m i))

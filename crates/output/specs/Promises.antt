@@ -2,10 +2,15 @@
 use Prim.Native.Nat.{ℕ, _≤_, _<_}
 use mathlib.Core.Path.{_≡_}
 use mathlib.Core.Logic.{_↔_}
-use mathlib.Core.List.{List, [], _∷_, _++_}
+use mathlib.Core.Bool.{false}
+use mathlib.Core.List.{List, [], _∷_, _++_, map}
 use lib.ListN.{length}
 use Rattle.sets.specs.Sets.{count}
+use Rattle.rules.specs.declared.Machine.{Machine}
+use Rattle.rules.specs.State.{stageOf, finished}
+use Rattle.rules.specs.Calls.{looked}
 use Rattle.history.specs.Runs.{hasEntered}
+use Rattle.history.specs.Figure.{Pair, returns, programOf}
 use Rattle.formats.specs.declared.FileAnswer.{FileAnswer}
 use Rattle.formats.specs.declared.Header.{Header}
 use Rattle.formats.specs.Numbers.{numberOf}
@@ -13,7 +18,7 @@ use Rattle.formats.specs.Records.{headerOf}
 use Rattle.replays.specs.Replays.{replayOf, callsOf, processesOf}
 use Rattle.text.specs.Ascii.{ascii, lines}
 use Rattle.text.specs.Decimal.{decimal}
-use Rattle.output.specs.Lines.{lastLine, replayText, verdictText}
+use Rattle.output.specs.Lines.{viewText, lastLine, replayText, verdictText}
 
 -- "Both programs take at most 65,535 bytes; for more they print `too long` and nothing else."
 abbrev pub TooLongExactly : Type 0
@@ -24,6 +29,24 @@ TooLongExactly = (s : List ℕ)
 abbrev pub RefusedHeaderPrints : Type 0
 RefusedHeaderPrints = (s : List ℕ) (a : FileAnswer) → length s ≤ 65535 → headerOf s ≡ Header.Fault a
     → replayText s ≡ ascii "run " ++ (decimal (numberOf a) ++ lines (" 0 0 0 0" ∷ "p 1 absent 0 0 -" ∷ "participants 0" ∷ []))
+
+-- "process:value pairs, .. split by commas"
+abbrev pub pairText : Pair → List ℕ
+pairText q = decimal (q .process) ++ (ascii ":" ++ decimal (q .value))
+
+unfoldable pub commas : List (List ℕ) → List ℕ
+commas [] = []
+commas (x ∷ []) = x
+commas (x ∷ y ∷ ys) = x ++ (ascii "," ++ commas (y ∷ ys))
+
+-- "view (`-` if not finished; else process:value pairs, ascending, split by commas)": `-` for no other, and otherwise the pairs that Fig. 8.16 returns,
+-- in its own order, which ascends.
+pub record ViewPrinted (m : Machine) (i : ℕ) : Type 0 where
+  pub dash : (viewText (looked m (stageOf m i)) ≡ ascii "-") ↔ (finished (stageOf m i) ≡ false)
+  pub pairs : (list : List Pair) → programOf m i ≡ returns list → viewText (looked m (stageOf m i)) ≡ commas (map pairText list)
+
+abbrev pub EveryViewPrinted : Type 0
+EveryViewPrinted = (s : List ℕ) (budget i : ℕ) → 1 ≤ i → i ≤ processesOf s → ViewPrinted (replayOf s budget .machine) i
 
 -- "Last: `participants` and how many processes have entered": those of 1 to n of whom the list of calls that the file holds has an accepted enter,
 -- whether they crashed or finished since or not; at every budget.

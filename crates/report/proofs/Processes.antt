@@ -2,7 +2,8 @@
 use Prim.Native.Nat.{ℕ, suc, _+_, _-_, _*_, _≤_, _<_}
 use mathlib.Core.Bool.{Bool, true, false, _&&_, cond}
 use mathlib.Core.Path.{_≡_, refl, sym, ap, ap₂, _∙_}
-use mathlib.Core.List.{List, _++_, append-nil}
+use mathlib.Core.List.{List, _++_}
+use native.Mathlib.Numerals.{add-one}
 use native.Mathlib.Omega.{arith}
 use lib.ListN.{length, getD}
 use borrow.Author.Tests.{le-leb}
@@ -15,7 +16,7 @@ use Rattle.rules.specs.Shape.{Shaped}
 use Rattle.rules.specs.Calls.{looked, unseen, lookOf}
 use Rattle.rules.proofs.Laws.Shape.{record-shaped}
 use Rattle.text.specs.Parts.{joined}
-use Rattle.text.proofs.Parts.{joined-at}
+use Rattle.text.proofs.Parts.{joined-more}
 use Rattle.output.specs.Lines.{sightLine, processLine, partaking}
 use Rattle.text.specs.Stores.{Room, Stored}
 use Rattle.text.proofs.Stores.{then, stored-none, stored-as, stored-length}
@@ -37,12 +38,8 @@ pub lines-none : (m : Machine) (b : List ℕ) (at : ℕ) → Lines m b at b at 0
 unfolding joined
 lines-none m b at = record { most = omega arith; near = omega arith; stands = stored-none b at }
 
-joined-more : (f : ℕ → List ℕ) (i : ℕ) → joined 1 i f ++ f (i + 1) ≡ joined 1 (i + 1) f
-unfolding joined
-joined-more f i =
-    let z : i + 1 ≡ i + suc 0 = omega arith in
-    let k : 1 + i ≡ i + 1 = omega arith in
-    sym (joined-at i 1 (i + 1) 0 f z ∙ ap (λ (x : List ℕ). joined 1 i f ++ x) (append-nil (f (1 + i)) ∙ ap f k))
+one-more : (f : ℕ → List ℕ) (i : ℕ) → joined 1 i f ++ f (i + 1) ≡ joined 1 (i + 1) f
+one-more f i = rw (add-one, joined-more i f)
 
 module _ {m : Machine} {b₀ b : List ℕ} {at place i : ℕ} (l : Lines m b₀ at b place i) (h : i < m .n) where
   -- there is room for one line more, which has at most 485 bytes
@@ -57,7 +54,7 @@ module _ {m : Machine} {b₀ b : List ℕ} {at place i : ℕ} (l : Lines m b₀ 
       record {
         most = omega arith;
         near = omega (arith, l .near, t .next);
-        stands = stored-as (joined-more (processLine m) i) (then (l .stands) (stored-as one t));
+        stands = stored-as (one-more (processLine m) i) (then (l .stands) (stored-as one t));
       }
 
 pub lines-all : {m : Machine} {b₀ b : List ℕ} {at place i : ℕ} → Lines m b₀ at b place i → m .n ≤ i
