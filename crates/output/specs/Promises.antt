@@ -1,7 +1,7 @@
 -- What is promised of the printed texts. `proofs/` proves each, under the same name in small letters, with hyphens.
 use Prim.Native.Nat.{ℕ, _≤_, _<_}
 use mathlib.Core.Path.{_≡_}
-use mathlib.Core.Logic.{_↔_}
+use mathlib.Core.Logic.{_↔_, _≢_}
 use mathlib.Core.Bool.{false}
 use mathlib.Core.List.{List, [], _∷_, _++_, map}
 use lib.ListN.{length}
@@ -24,6 +24,10 @@ use Rattle.output.specs.Lines.{viewText, lastLine, replayText, verdictTe
 abbrev pub TooLongExactly : Type 0
 TooLongExactly = (s : List ℕ)
     → ((replayText s ≡ lines ("too long" ∷ [])) ↔ (65535 < length s)) × ((verdictText s ≡ lines ("too long" ∷ [])) ↔ (65535 < length s))
+
+-- "Replay uses a budget of 65,535 orders": 65,535 bytes hold at most 21,844, so that it is never spent, and 13 is never printed.
+abbrev pub NeverThirteen : Type 0
+NeverThirteen = (s : List ℕ) → length s ≤ 65535 → (replayOf s 65535 .taken ≤ 21844) × (numberOf (replayOf s 65535 .answer) ≢ 13)
 
 -- "A refused header prints the process line `p 1 absent 0 0 -`": every one, after the line `run`, its number, and 0 four times.
 abbrev pub RefusedHeaderPrints : Type 0
