@@ -392,7 +392,7 @@ record Found (m : Machine) (x f k j v : ℕ) : Type 0 where
   held : cellOf m x j ≡ v
 
 -- the list with one register more
-pairs-next : (m : Machine) (x f k : ℕ)
+pub pairs-next : (m : Machine) (x f k : ℕ)
     → pairs 1 (readings m x f (suc k)) ≡ pairs 1 (readings m x f k) ++ pairs (suc k) (found m x f (suc k) ∷ [])
 unfolding readings
 pairs-next m x f k =

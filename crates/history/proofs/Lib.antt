@@ -13,4 +13,5 @@ pub mod Alone
 pub mod Stays
 pub mod Looks
 pub mod Theorems
+pub mod Bare
 pub mod Examples

@@ -3,7 +3,7 @@ use Rattle.history.specs.Theorems.{StepIsFirstAccess, EnterIsStart, Cras
 use Rattle.history.specs.Theorems.{AloneNeverOneNorSeven, AcceptedWhileAccesses, AtMostXReachX}
 use Rattle.history.specs.Theorems.{ReachedIsReaches, ThreeProperties, ThreePropertiesOfSets, ViewsAreGiven, ExactSteps, EnoughSteps}
 use Rattle.history.specs.Theorems.{AccessesCounted, WaitFree, CrashedStays, FinishedStays, WrittenStays}
-use Rattle.history.specs.Theorems.{AloneFinishes, OverAppend, CountsOfRuns}
+use Rattle.history.specs.Theorems.{AloneFinishes, OverAppend, CountsOfRuns, EnteredByCall}
 use Rattle.history.proofs.Appends
 use Rattle.history.proofs.Moves
 use Rattle.history.proofs.Counts
@@ -14,6 +14,7 @@ use Rattle.history.proofs.Snapshot
 use Rattle.history.proofs.Alone
 use Rattle.history.proofs.Stays
 use Rattle.history.proofs.Looks
+use Rattle.history.proofs.Given
 
 pub step-is-first-access : StepIsFirstAccess
 step-is-first-access = Figure.step-is-first-access
@@ -86,3 +87,6 @@ over-append = record { state = Appends.from-append; counts = Appends.tally-appen
 
 pub counts-of-runs : CountsOfRuns
 counts-of-runs = Counts.counts-of-runs
+
+pub entered-by-call : EnteredByCall
+entered-by-call = Given.entered-by-call

@@ -3,7 +3,7 @@ use mathlib.Core.Path.{_≡_}
 use mathlib.Core.Bool.{true, false}
 use mathlib.Core.List.{List, [], _∷_}
 use Prim.Native.Nat.{ℕ}
-use Rattle.history.specs.Runs.{Call, enters, steps, runs, acceptedSteps, allSteps, acceptedCalls, refusedCalls, reached, given}
+use Rattle.history.specs.Runs.{Call, enters, steps, runs, acceptedSteps, allSteps, acceptedCalls, refusedCalls, reached, given, hasEntered}
 use Rattle.history.specs.Figure.{Pair, returns, programOf}
 
 -- "`EN` 1 value 7; `EN` 2 value 9; `ST` 1 three times; `ST` 2 three times; `ST` 1 three times; `ST` 2"
@@ -29,6 +29,13 @@ pub record PrintedLevels : Type 0 where
   pub two-at-2 : reached 2 printed 2 2 ≡ true
   pub one-at-1 : reached 2 printed 1 1 ≡ true
   pub two-at-1 : reached 2 printed 1 2 ≡ false
+
+-- "participants 2"; an enter that is refused, of process 3 of 2, makes no participant
+pub record PrintedEntered : Type 0 where
+  pub one : hasEntered 2 printed 1 ≡ true
+  pub two : hasEntered 2 printed 2 ≡ true
+  pub three : hasEntered 2 printed 3 ≡ false
+  pub refused : hasEntered 2 (enters 3 7 ∷ []) 3 ≡ false
 
 -- "p 1 finished 1 6 1:7", "p 2 finished 2 3 1:7,2:9"
 pub record PrintedViews : Type 0 where

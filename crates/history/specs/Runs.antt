@@ -100,3 +100,16 @@ givenFrom m (c ∷ cs) p = gives m c p (givenFrom (after m c) cs p)
 
 abbrev pub given : ℕ → List Call → ℕ → ℕ
 given n cs p = givenFrom (fresh n) cs p
+
+-- an enter of process p is among the calls, and is accepted
+abbrev pub isEnterOf : ℕ → Call → Bool
+isEnterOf p (enters q v) = eqb q p
+isEnterOf p (steps q) = false
+isEnterOf p (crashes q) = false
+
+unfoldable pub enteredFrom : Machine → List Call → ℕ → Bool
+enteredFrom m [] p = false
+enteredFrom m (c ∷ cs) p = (isEnterOf p c && accepted (answer m c)) || enteredFrom (after m c) cs p
+
+abbrev pub hasEntered : ℕ → List Call → ℕ → Bool
+hasEntered n cs p = enteredFrom (fresh n) cs p

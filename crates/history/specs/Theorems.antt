@@ -15,7 +15,7 @@ use Rattle.rules.specs.Shape.{Held, Shaped}
 use Rattle.rules.specs.Calls.{numberOf, accepted, fresh, enterOf, stepOf, crashOf, finishOf, lookOf}
 use Rattle.rules.specs.Statements.{Meets}
 use Rattle.history.specs.Runs.{Call, steps, answer, from, runs, tally, acceptedSteps, allSteps, acceptedCalls, refusedCalls, reached}
-use Rattle.history.specs.Runs.{Reaches, given}
+use Rattle.history.specs.Runs.{Reaches, given, hasEntered}
 use Rattle.history.specs.Figure.{holds, Pair, returns, halted, update-snapshot, accesses, registersAfter, remains, register, programOf}
 use Rattle.history.specs.Views.{Has, View}
 
@@ -188,3 +188,7 @@ pub record CountsAgree (n : ℕ) (cs : List Call) : Type 0 where
 
 abbrev pub CountsOfRuns : Type 0
 CountsOfRuns = OfEveryRun CountsAgree
+
+-- A process has entered, whatever became of it since, exactly if an enter of it is among the calls and was accepted.
+abbrev pub EnteredByCall : Type 0
+EnteredByCall = OfEveryRun λ n cs. (p : ℕ) → 1 ≤ p → entered (stageOf (runs n cs) p) ≡ hasEntered n cs p

@@ -1,50 +1,59 @@
--- Printed texts: document 01's own, the lines of a refused header, `too long`, and verdicts.
-use Prim.Native.Nat.{ℕ, _≤_, _<_}
+-- Printed texts, computed: document 01's own, P2 and P7, other runs, a cut file, a refused header, and verdicts.
+use Prim.Native.Nat.{ℕ, zero, suc, _-_}
 use mathlib.Core.Path.{_≡_}
 use mathlib.Core.List.{List, [], _∷_, _++_}
-use lib.ListN.{length}
-use Rattle.formats.specs.declared.FileAnswer.{FileAnswer}
-use Rattle.formats.specs.declared.Header.{Header}
-use Rattle.formats.specs.Numbers.{numberOf}
-use Rattle.formats.specs.Records.{headerOf}
 use Rattle.formats.specs.Examples.{MN}
 use Rattle.findings.specs.Examples.{p10}
-use Rattle.replays.specs.Examples.{printedFile}
-use Rattle.text.specs.Decimal.{decimal}
-use Rattle.output.specs.Lines.{fields, line, run, replayText, verdictText}
+use Rattle.replays.specs.Examples.{EN, ST, CR, printedFile}
+use Rattle.text.specs.Ascii.{lines}
+use Rattle.text.specs.Parts.{joined}
+use Rattle.output.specs.Lines.{replayText, verdictText}
 
--- "run 0 47 12 9 1", "p 1 finished 1 6 1:7", "p 2 finished 2 3 1:7,2:9", "participants 2"
-abbrev pub printed : List ℕ
-printed =
-    (114 ∷ 117 ∷ 110 ∷ 32 ∷ 48 ∷ 32 ∷ 52 ∷ 55 ∷ 32 ∷ 49 ∷ 50 ∷ 32 ∷ 57 ∷ 32 ∷ 49 ∷ 10 ∷ [])
-    ++ (112 ∷ 32 ∷ 49 ∷ 32 ∷ 102 ∷ 105 ∷ 110 ∷ 105 ∷ 115 ∷ 104 ∷ 101 ∷ 100 ∷ 32 ∷ 49 ∷ 32 ∷ 54 ∷ 32 ∷ 49 ∷ 58 ∷ 55 ∷ 10 ∷ [])
-    ++ (112 ∷ 32 ∷ 50 ∷ 32 ∷ 102 ∷ 105 ∷ 110 ∷ 105 ∷ 115 ∷ 104 ∷ 101 ∷ 100 ∷ 32 ∷ 50 ∷ 32 ∷ 51 ∷ 32 ∷ 49 ∷ 58 ∷ 55 ∷ 44 ∷ 50 ∷ 58 ∷ 57 ∷ 10 ∷ [])
-    ++ (112 ∷ 97 ∷ 114 ∷ 116 ∷ 105 ∷ 99 ∷ 105 ∷ 112 ∷ 97 ∷ 110 ∷ 116 ∷ 115 ∷ 32 ∷ 50 ∷ 10 ∷ [])
+-- a record as often as that
+abbrev pub times : ℕ → List ℕ → List ℕ
+times zero r = []
+times (suc k) r = r ++ times k r
 
--- "p 1 absent 0 0 -", "participants 0"
-abbrev pub nobodyThere : List ℕ
-nobodyThere =
-    (112 ∷ 32 ∷ 49 ∷ 32 ∷ 97 ∷ 98 ∷ 115 ∷ 101 ∷ 110 ∷ 116 ∷ 32 ∷ 48 ∷ 32 ∷ 48 ∷ 32 ∷ 45 ∷ 10 ∷ [])
-    ++ (112 ∷ 97 ∷ 114 ∷ 116 ∷ 105 ∷ 99 ∷ 105 ∷ 112 ∷ 97 ∷ 110 ∷ 116 ∷ 115 ∷ 32 ∷ 48 ∷ 10 ∷ [])
+-- P2, "n = 1, value 0: two steps", and with the largest value that a register holds
+abbrev pub p2File : List ℕ
+p2File = MN 1 ++ EN 1 0 ++ ST 1 ++ ST 1
 
--- "run 8 0 0 0 0", and those
-abbrev pub refusedHeader : List ℕ
-refusedHeader = (114 ∷ 117 ∷ 110 ∷ 32 ∷ 56 ∷ 32 ∷ 48 ∷ 32 ∷ 48 ∷ 32 ∷ 48 ∷ 32 ∷ 48 ∷ 10 ∷ []) ++ nobodyThere
+abbrev pub largestFile : List ℕ
+largestFile = MN 1 ++ (69 ∷ 78 ∷ 1 ∷ 255 ∷ 255 ∷ 255 ∷ 255 ∷ []) ++ ST 1 ++ ST 1
 
--- "A refused header prints the process line `p 1 absent 0 0 -`": every one, after the line `run`, its number, and 0 four times.
-abbrev pub RefusedHeaderPrints : Type 0
-RefusedHeaderPrints = (s : List ℕ) (a : FileAnswer) → length s ≤ 65535 → headerOf s ≡ Header.Fault a
-    → replayText s ≡ line (run ∷ fields (numberOf a ∷ 0 ∷ 0 ∷ 0 ∷ 0 ∷ []) ∷ []) ++ nobodyThere
+-- P7, "n = 3: 1 writes and crashes; 2 alone ends at level 1 after 12; 3 alone ends at level 3 after 4, and its view has 1, 2, 3"
+abbrev pub p7File : List ℕ
+p7File = MN 3 ++ EN 1 5 ++ EN 2 6 ++ EN 3 7 ++ ST 1 ++ CR 1 ++ times 12 (ST 2) ++ times 4 (ST 3)
+
+-- two write, and 1 reads; 2 alone has entered; ten write, and 10 reads
+abbrev pub runningFile : List ℕ
+runningFile = MN 2 ++ EN 1 10 ++ EN 2 7 ++ ST 1 ++ ST 2 ++ ST 1 ++ ST 1
+
+abbrev pub absentFile : List ℕ
+absentFile = MN 2 ++ EN 2 7
+
+abbrev pub tenFile : List ℕ
+tenFile = MN 10 ++ joined 1 10 (λ i. EN i (20 - i)) ++ joined 1 10 ST ++ times 10 (ST 10)
+
+-- a step that is refused, then one cut off
+abbrev pub cutFile : List ℕ
+cutFile = MN 1 ++ ST 1 ++ 83 ∷ []
 
 pub record Texts : Type 0 where
-  pub printed-run : replayText printedFile ≡ printed
-  pub refused-header : replayText (MN 33) ≡ refusedHeader
-  -- "verdict 22 37 1 2"
-  pub unlike-views : verdictText p10 ≡ 118 ∷ 101 ∷ 114 ∷ 100 ∷ 105 ∷ 99 ∷ 116 ∷ 32 ∷ 50 ∷ 50 ∷ 32 ∷ 51 ∷ 55 ∷ 32 ∷ 49 ∷ 32 ∷ 50 ∷ 10 ∷ []
-  -- "verdict 9 0 0 0"
-  pub nothing : verdictText [] ≡ 118 ∷ 101 ∷ 114 ∷ 100 ∷ 105 ∷ 99 ∷ 116 ∷ 32 ∷ 57 ∷ 32 ∷ 48 ∷ 32 ∷ 48 ∷ 32 ∷ 48 ∷ 10 ∷ []
-  -- one byte more than 65,535, whatever the bytes are
-  pub long-orders : (s : List ℕ) → 65535 < length s → replayText s ≡ 116 ∷ 111 ∷ 111 ∷ 32 ∷ 108 ∷ 111 ∷ 110 ∷ 103 ∷ 10 ∷ []
-  pub long-views : (s : List ℕ) → 65535 < length s → verdictText s ≡ 116 ∷ 111 ∷ 111 ∷ 32 ∷ 108 ∷ 111 ∷ 110 ∷ 103 ∷ 10 ∷ []
-  -- the largest value that a register holds, 4294967295
-  pub largest : decimal 4294967295 ≡ 52 ∷ 50 ∷ 57 ∷ 52 ∷ 57 ∷ 54 ∷ 55 ∷ 50 ∷ 57 ∷ 53 ∷ []
+  pub printed-run : replayText printedFile
+      ≡ lines ("run 0 47 12 9 1" ∷ "p 1 finished 1 6 1:7" ∷ "p 2 finished 2 3 1:7,2:9" ∷ "participants 2" ∷ [])
+  pub p2 : replayText p2File ≡ lines ("run 0 16 3 2 0" ∷ "p 1 finished 1 2 1:0" ∷ "participants 1" ∷ [])
+  pub largest : replayText largestFile ≡ lines ("run 0 16 3 2 0" ∷ "p 1 finished 1 2 1:4294967295" ∷ "participants 1" ∷ [])
+  pub p7 : replayText p7File
+      ≡ lines ("run 0 78 21 17 0" ∷ "p 1 crashed 3 1 -" ∷ "p 2 finished 1 12 2:6" ∷ "p 3 finished 3 4 1:5,2:6,3:7" ∷ "participants 3" ∷ [])
+  pub running : replayText runningFile
+      ≡ lines ("run 0 29 6 4 0" ∷ "p 1 finished 2 3 1:10,2:7" ∷ "p 2 running 2 1 -" ∷ "participants 2" ∷ [])
+  pub absent : replayText absentFile ≡ lines ("run 0 10 1 0 0" ∷ "p 1 absent 0 0 -" ∷ "p 2 running 2 0 -" ∷ "participants 1" ∷ [])
+  pub ten : replayText tenFile
+      ≡ lines ("run 0 133 30 20 0" ∷ "p 1 running 10 1 -" ∷ "p 2 running 10 1 -" ∷ "p 3 running 10 1 -" ∷ "p 4 running 10 1 -" ∷ "p 5 running 10 1 -"
+      ∷ "p 6 running 10 1 -" ∷ "p 7 running 10 1 -" ∷ "p 8 running 10 1 -" ∷ "p 9 running 10 1 -"
+      ∷ "p 10 finished 10 11 1:19,2:18,3:17,4:16,5:15,6:14,7:13,8:12,9:11,10:10" ∷ "participants 10" ∷ [])
+  pub cut : replayText cutFile ≡ lines ("run 11 6 1 0 1" ∷ "p 1 absent 0 0 -" ∷ "participants 0" ∷ [])
+  pub refused-header : replayText (MN 33) ≡ lines ("run 8 0 0 0 0" ∷ "p 1 absent 0 0 -" ∷ "participants 0" ∷ [])
+  pub unlike-views : verdictText p10 ≡ lines ("verdict 22 37 1 2" ∷ [])
+  pub nothing : verdictText [] ≡ lines ("verdict 9 0 0 0" ∷ [])

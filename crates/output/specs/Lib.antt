@@ -1,3 +1,4 @@
--- The printed lines of both programs, and examples.
+-- The printed lines of both programs, what is promised of them, and examples.
 pub mod Lines
+pub mod Promises
 pub mod Examples

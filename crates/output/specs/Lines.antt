@@ -6,7 +6,6 @@ use mathlib.Core.List.{List, [], _∷_, _++_}
 use lib.Dec.{leb}
 use lib.ListN.{length, getD}
 use Rattle.sets.specs.Sets.{has, count}
-use Rattle.rules.specs.declared.Stage.{Stage}
 use Rattle.rules.specs.declared.Standing.{Standing}
 use Rattle.rules.specs.declared.Standing.the-variants.{Absent, Running, Finished, Crashed}
 use Rattle.rules.specs.declared.Machine.{Machine}
@@ -19,11 +18,12 @@ use Rattle.findings.specs.declared.FileVerdict.{FileVerdict}
 use Rattle.findings.specs.Verdict.{verdictOf}
 use Rattle.replays.specs.declared.Replayed.{Replayed}
 use Rattle.replays.specs.Replays.{replayOf}
+use Rattle.text.specs.Ascii.{ascii}
 use Rattle.text.specs.Decimal.{decimal}
 
 -- a space, and a number after it
 abbrev pub field : ℕ → List ℕ
-field n = 32 ∷ decimal n
+field n = ascii " " ++ decimal n
 
 abbrev pub fields : List ℕ → List ℕ
 fields [] = []
@@ -34,36 +34,36 @@ abbrev pub line : List (List ℕ) → List ℕ
 line [] = 10 ∷ []
 line (x ∷ xs) = x ++ line xs
 
--- `too long`, `run`, `p`, `participants`, `verdict`
+-- the words
 abbrev pub tooLong : List ℕ
-tooLong = line ((116 ∷ 111 ∷ 111 ∷ 32 ∷ 108 ∷ 111 ∷ 110 ∷ 103 ∷ []) ∷ [])
+tooLong = line (ascii "too long" ∷ [])
 
 abbrev pub run : List ℕ
-run = 114 ∷ 117 ∷ 110 ∷ []
+run = ascii "run"
 
 abbrev pub p : List ℕ
-p = 112 ∷ []
+p = ascii "p"
 
 abbrev pub participants : List ℕ
-participants = 112 ∷ 97 ∷ 114 ∷ 116 ∷ 105 ∷ 99 ∷ 105 ∷ 112 ∷ 97 ∷ 110 ∷ 116 ∷ 115 ∷ []
+participants = ascii "participants"
 
 abbrev pub verdict : List ℕ
-verdict = 118 ∷ 101 ∷ 114 ∷ 100 ∷ 105 ∷ 99 ∷ 116 ∷ []
+verdict = ascii "verdict"
 
--- `absent`, `running`, `finished`, `crashed`, after a space
+-- "stage (`absent`, `running`, `finished`, `crashed`)", after a space
 abbrev pub stageWord : Standing → List ℕ
-stageWord Absent = 32 ∷ 97 ∷ 98 ∷ 115 ∷ 101 ∷ 110 ∷ 116 ∷ []
-stageWord Running = 32 ∷ 114 ∷ 117 ∷ 110 ∷ 110 ∷ 105 ∷ 110 ∷ 103 ∷ []
-stageWord Finished = 32 ∷ 102 ∷ 105 ∷ 110 ∷ 105 ∷ 115 ∷ 104 ∷ 101 ∷ 100 ∷ []
-stageWord Crashed = 32 ∷ 99 ∷ 114 ∷ 97 ∷ 115 ∷ 104 ∷ 101 ∷ 100 ∷ []
+stageWord Absent = ascii " absent"
+stageWord Running = ascii " running"
+stageWord Finished = ascii " finished"
+stageWord Crashed = ascii " crashed"
 
 -- "process:value pairs, ascending, split by commas": a pair, with a comma before it unless it is the first
 abbrev pub comma : Bool → List ℕ
 comma false = []
-comma true = 44 ∷ []
+comma true = ascii ","
 
 unfoldable pub pair : Bool → ℕ → ℕ → List ℕ
-pair later i v = comma later ++ (decimal i ++ 58 ∷ decimal v)
+pair later i v = comma later ++ (decimal i ++ (ascii ":" ++ decimal v))
 
 -- the pairs of those of the k processes from i on that the set w names, whose values stand at i - 1
 unfoldable pub pairsFrom : Bool → ℕ → List ℕ → ℕ → ℕ → List ℕ
@@ -73,15 +73,17 @@ pairsFrom later w values i (suc k) =
 
 -- "view (`-` if not finished; else process:value pairs, ..)"
 abbrev pub view : Standing → ℕ → List ℕ → List ℕ
-view Absent w values = 45 ∷ []
-view Running w values = 45 ∷ []
+view Absent w values = ascii "-"
+view Running w values = ascii "-"
 view Finished w values = pairsFrom false w values 1 32
-view Crashed w values = 45 ∷ []
+view Crashed w values = ascii "-"
+
+abbrev pub viewText : Sight → List ℕ
+viewText s = view (s .standing) (s .view) (s .values)
 
 -- "Then for each process, ascending: `p`, number, stage, level, accesses, view": what a look at the process shows
 unfoldable pub sightLine : ℕ → Sight → List ℕ
-sightLine i s =
-    line (p ∷ field i ∷ stageWord (s .standing) ∷ field (s .level) ∷ field (s .accesses) ∷ (32 ∷ view (s .standing) (s .view) (s .values)) ∷ [])
+sightLine i s = line (p ∷ field i ∷ stageWord (s .standing) ∷ field (s .level) ∷ field (s .accesses) ∷ (ascii " " ++ viewText s) ∷ [])
 
 unfoldable pub processLine : Machine → ℕ → List ℕ
 processLine m i = sightLine i (looked m (stageOf m i))
@@ -92,11 +94,8 @@ runLine r =
     line (run ∷ fields (numberOf (r .answer) ∷ r .place ∷ r .taken ∷ r .accesses ∷ r .refused ∷ []) ∷ [])
 
 -- "Last: `participants` and how many processes have entered."
-abbrev pub takesPart : Stage → Bool
-takesPart = entered
-
 unfoldable pub partaking : Machine → ℕ
-partaking m = count (λ i. takesPart (stageOf m i)) (m .n)
+partaking m = count (λ i. entered (stageOf m i)) (m .n)
 
 unfoldable pub lastLine : Machine → List ℕ
 lastLine m = line (participants ∷ fields (partaking m ∷ []) ∷ [])

@@ -12,7 +12,7 @@ use Rattle.rules.specs.declared.Machine.{Machine}
 use Rattle.rules.specs.declared.Sight.{Sight}
 use Rattle.rules.specs.declared.Standing.{Standing}
 use Rattle.rules.specs.declared.Standing.the-variants.{Absent, Running, Finished, Crashed}
-use Rattle.rules.specs.State.{stageOf}
+use Rattle.rules.specs.State.{stageOf, entered}
 use Rattle.formats.specs.declared.FileAnswer.{FileAnswer}
 use Rattle.formats.specs.declared.FileAnswer.the-variants.{Whole, OutOfRange, NotHeader, OtherMark, MarkCut, BodyCut, HeaderAgain}
 use Rattle.formats.specs.declared.FileAnswer.the-variants.{BudgetSpent, NoProcess, SecondView, NamesAbove}
@@ -21,7 +21,7 @@ use Rattle.replays.specs.declared.Replayed.{Replayed}
 use Rattle.findings.specs.declared.FileVerdict.{FileVerdict}
 use Rattle.text.specs.Decimal.{decimal}
 use Rattle.output.specs.Lines.{field, fields, line, verdict, verdictLine, run, p, participants, stageWord, comma, pair}
-use Rattle.output.specs.Lines.{pairsFrom, view, sightLine, runLine, takesPart, partaking, lastLine}
+use Rattle.output.specs.Lines.{pairsFrom, view, sightLine, runLine, partaking, lastLine}
 use Rattle.text.specs.Stores.{Room, Stored, over}
 use Rattle.text.proofs.Decimal.{two-digits, ten-digits, twenty-digits}
 use Rattle.text.proofs.Stores.{stored-length, stored-over}
@@ -150,7 +150,7 @@ pub last-length : (m : Machine) → m .n ≤ 32 → length (lastLine m) ≤ 16
 unfolding lastLine partaking
 last-length m h =
     let word : length participants ≤ 12 = omega arith in
-    let k : partaking m < 100 = omega (arith, count-le (λ i. takesPart (stageOf m i)) (m .n)) in
+    let k : partaking m < 100 = omega (arith, count-le (λ i. entered (stageOf m i)) (m .n)) in
     words-length participants (partaking m ∷ []) word (next (small-field (partaking m) k) none)
 
 -- a text that stands from the start of a buffer

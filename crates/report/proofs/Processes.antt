@@ -2,7 +2,8 @@
 use Prim.Native.Nat.{ℕ, suc, _+_, _-_, _*_, _≤_, _<_}
 use mathlib.Core.Bool.{Bool, true, false, _&&_, cond}
 use mathlib.Core.Path.{_≡_, refl, sym, ap, ap₂, _∙_}
-use mathlib.Core.List.{List, _++_, append-nil}
+use mathlib.Core.List.{List, _++_}
+use native.Mathlib.Numerals.{add-one}
 use native.Mathlib.Omega.{arith}
 use lib.ListN.{length, getD}
 use borrow.Author.Tests.{le-leb}
@@ -10,13 +11,13 @@ use Rattle.sets.specs.Sets.{count, tick}
 use Rattle.rules.specs.declared.Machine.{Machine}
 use Rattle.rules.specs.declared.Sight.{Sight}
 use Rattle.rules.specs.declared.Answer.the-variants.{NoProcess, NotShaped}
-use Rattle.rules.specs.State.{nobody, stageOf}
+use Rattle.rules.specs.State.{nobody, stageOf, entered}
 use Rattle.rules.specs.Shape.{Shaped}
 use Rattle.rules.specs.Calls.{looked, unseen, lookOf}
 use Rattle.rules.proofs.Laws.Shape.{record-shaped}
 use Rattle.text.specs.Parts.{joined}
-use Rattle.text.proofs.Parts.{joined-at}
-use Rattle.output.specs.Lines.{sightLine, processLine, takesPart, partaking}
+use Rattle.text.proofs.Parts.{joined-more}
+use Rattle.output.specs.Lines.{sightLine, processLine, partaking}
 use Rattle.text.specs.Stores.{Room, Stored}
 use Rattle.text.proofs.Stores.{then, stored-none, stored-as, stored-length}
 
@@ -37,12 +38,8 @@ pub lines-none : (m : Machine) (b : List ℕ) (at : ℕ) → Lines m b at b at 0
 unfolding joined
 lines-none m b at = record { most = omega arith; near = omega arith; stands = stored-none b at }
 
-joined-more : (f : ℕ → List ℕ) (i : ℕ) → joined 1 i f ++ f (i + 1) ≡ joined 1 (i + 1) f
-unfolding joined
-joined-more f i =
-    let z : i + 1 ≡ i + suc 0 = omega arith in
-    let k : 1 + i ≡ i + 1 = omega arith in
-    sym (joined-at i 1 (i + 1) 0 f z ∙ ap (λ (x : List ℕ). joined 1 i f ++ x) (append-nil (f (1 + i)) ∙ ap f k))
+one-more : (f : ℕ → List ℕ) (i : ℕ) → joined 1 i f ++ f (i + 1) ≡ joined 1 (i + 1) f
+one-more f i = rw (add-one, joined-more i f)
 
 module _ {m : Machine} {b₀ b : List ℕ} {at place i : ℕ} (l : Lines m b₀ at b place i) (h : i < m .n) where
   -- there is room for one line more, which has at most 485 bytes
@@ -57,7 +54,7 @@ module _ {m : Machine} {b₀ b : List ℕ} {at place i : ℕ} (l : Lines m b₀ 
       record {
         most = omega arith;
         near = omega (arith, l .near, t .next);
-        stands = stored-as (joined-more (processLine m) i) (then (l .stands) (stored-as one t));
+        stands = stored-as (one-more (processLine m) i) (then (l .stands) (stored-as one t));
       }
 
 pub lines-all : {m : Machine} {b₀ b : List ℕ} {at place i : ℕ} → Lines m b₀ at b place i → m .n ≤ i
@@ -70,7 +67,7 @@ lines-all {m} {b₀} {b} {at} {place} {i} l h =
 pub record Partakers (m : Machine) (sum i : ℕ) : Type 0 where
   pub most : i ≤ m .n
   pub few : sum ≤ i
-  pub counted : sum ≡ count (λ j. takesPart (stageOf m j)) i
+  pub counted : sum ≡ count (λ j. entered (stageOf m j)) i
 
 pub partakers-none : (m : Machine) → Partakers m 0 0
 unfolding count
@@ -79,22 +76,22 @@ partakers-none m = record { most = omega arith; few = omega arith; counted = ref
 tick-one : (t : Bool) → tick t ≤ 1
 tick-one t = elim t [ true ↦ omega arith | false ↦ omega arith ]
 
-pub partakers-more : {m : Machine} {sum i : ℕ} → Partakers m sum i → i < m .n → {k : ℕ} → k ≡ tick (takesPart (getD (m .processes) i nobody .stage))
+pub partakers-more : {m : Machine} {sum i : ℕ} → Partakers m sum i → i < m .n → {k : ℕ} → k ≡ tick (entered (getD (m .processes) i nobody .stage))
     → Partakers m (sum + k) (i + 1)
 unfolding count
 partakers-more {m} {sum} {i} l h {k} e =
     let s : i + 1 ≡ suc i = omega arith in
     let j : suc i - 1 ≡ i = omega arith in
-    let f : ℕ → Bool = λ q. takesPart (stageOf m q) in
+    let f : ℕ → Bool = λ q. entered (stageOf m q) in
     let c : count f (i + 1) ≡ tick (f (suc i)) + count f i = ap (count f) s in
-    let d : tick (f (suc i)) ≡ k = ap (λ (q : ℕ). tick (takesPart (getD (m .processes) q nobody .stage))) j ∙ sym e in
+    let d : tick (f (suc i)) ≡ k = ap (λ (q : ℕ). tick (entered (getD (m .processes) q nobody .stage))) j ∙ sym e in
     record {
       most = omega arith;
-      few = omega (arith, l .few, tick-one (takesPart (getD (m .processes) i nobody .stage)));
+      few = omega (arith, l .few, tick-one (entered (getD (m .processes) i nobody .stage)));
       counted = omega
           (arith, l .counted);
     }
 
 pub partakers-all : {m : Machine} {sum i : ℕ} → Partakers m sum i → m .n ≤ i → sum ≡ partaking m
 unfolding partaking
-partakers-all {m} {sum} {i} l h = let e : i ≡ m .n = omega (arith, l .most) in l .counted ∙ ap (count (λ j. takesPart (stageOf m j))) e
+partakers-all {m} {sum} {i} l h = let e : i ≡ m .n = omega (arith, l .most) in l .counted ∙ ap (count (λ j. entered (stageOf m j))) e

@@ -6,8 +6,9 @@ ghost use lib.ListN.{length};
 ghost use mathlib.Core.Bool.{false};
 ghost use Rattle.text.specs.Decimal.{decimal};
 ghost use Rattle.output.specs.Lines.{field, fields, line, verdictLine, verdictText, stageWord, comma, pair, pairsFrom, view, sightLine};
-ghost use Rattle.output.specs.Lines.{processLine, takesPart, partaking, lastLine, runLine, replayLines, replayText};
+ghost use Rattle.output.specs.Lines.{processLine, partaking, lastLine, runLine, replayLines, replayText};
 ghost use Rattle.sets.specs.Sets.{tick};
+ghost use Rattle.rules.specs.State.{entered};
 ghost use Rattle.rules.specs.Shape.{Shaped};
 ghost use Rattle.text.specs.Parts.{joined};
 ghost use Rattle.text.specs.Stores.{Room, Stored, over};
@@ -201,9 +202,9 @@ fn put_processes(out: &mut [u8], at: usize, m: Machine) -> usize
     place
 }
 
-// 1 for a process that takes part, and 0 for another.
+// 1 for a process that has entered, and 0 for another.
 fn taking_part(s: Stage) -> usize
-    ensures { λ r. ⌜ r ≡ tick (takesPart s) ⌝ }
+    ensures { λ r. ⌜ r ≡ tick (entered s) ⌝ }
 {
     match s {
         Stage::Absent => 0,

@@ -1,7 +1,7 @@
 -- Parts joined one after another: split at one of them; all of one length, how long they are and what stands where.
 use Prim.Native.Nat.{ℕ, zero, suc, _+_, _-_, _*_, _≤_, _<_}
 use mathlib.Core.Path.{_≡_, refl, sym, ap, ap₂, _∙_}
-use mathlib.Core.List.{List, [], _++_, append-assoc}
+use mathlib.Core.List.{List, [], _++_, append-assoc, append-nil}
 use native.Mathlib.Nat.{mul-suc}
 use native.Mathlib.Numerals.{add-one}
 use native.Mathlib.Omega.{arith}
@@ -30,6 +30,22 @@ unfolding joined
 joined-next {A} i f h =
     let e : 32 - i ≡ suc (32 - (i + 1)) = omega arith in
     ap (λ (k : ℕ). joined (suc i) k f) e ∙ ap (λ (a : ℕ). f a ++ joined (suc a) (32 - (i + 1)) f) (sym (add-one i))
+
+-- one part more at the end
+pub joined-more : {A : Type 0} (i : ℕ) (f : ℕ → List A) → joined 1 (suc i) f ≡ joined 1 i f ++ f (suc i)
+unfolding joined
+joined-more i f =
+    let z : suc i ≡ i + suc 0 = omega arith in
+    let k : 1 + i ≡ suc i = omega arith in
+    joined-at i 1 (suc i) 0 f z ∙ ap (λ x. joined 1 i f ++ x) (append-nil (f (1 + i)) ∙ ap f k)
+
+-- parts that are nothing from one on
+pub joined-beyond : {A : Type 0} (k d : ℕ) (f : ℕ → List A) → ((i : ℕ) → k < i → f i ≡ []) → joined 1 (k + d) f ≡ joined 1 k f
+joined-beyond k zero f h = let e : k + 0 ≡ k = omega arith in ap (λ (x : ℕ). joined 1 x f) e
+joined-beyond k (suc d) f h =
+    let e : k + suc d ≡ suc (k + d) = omega arith in
+    ap (λ (x : ℕ). joined 1 x f) e ∙ joined-more (k + d) f
+    ∙ ap (λ x. joined 1 (k + d) f ++ x) (h (suc (k + d)) (omega arith)) ∙ append-nil (joined 1 (k + d) f) ∙ joined-beyond k d f h
 
 pub joined-none : {A : Type 0} (a k : ℕ) (f : ℕ → List A) → ((i : ℕ) → f i ≡ []) → joined a k f ≡ []
 unfolding joined
