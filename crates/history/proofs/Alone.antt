@@ -23,19 +23,20 @@ use Rattle.rules.proofs.Laws.Numbers.{table-of-numbers}
 use Rattle.rules.proofs.Laws.Steps.{steps-on, steps-off}
 use Rattle.rules.proofs.Laws.Accesses.{accesses-of-calls}
 use Rattle.rules.proofs.Laws.Finishing.{finishing-alone}
-use Rattle.history.specs.Runs.{Call, steps, crashes, answer, from, runs, tally, stepOfTaken, acceptedSteps}
+use Rattle.history.specs.Runs.{Call, steps, crashes, answer, machineTaker, from, runs, tally, acceptedStepOf, acceptedSteps}
 use Rattle.history.specs.Theorems.{AloneNeverOneNorSeven, FinishesAlone, AloneFinishes, WaitFree}
-use Rattle.history.proofs.Appends.{from-append, tally-append}
+use Rattle.world.proofs.Laws.{leaves-append, counts-append}
 use Rattle.history.proofs.Moves.{every-state-shaped}
 use Rattle.history.proofs.Stays.{finished-from}
 use Rattle.history.proofs.Counts.{accesses-counted}
 use Rattle.history.proofs.Invariant.{Inv, inv-from, inv-runs}
 use Rattle.history.proofs.Answers.{Fine, answer-fine}
+use Rattle.world.specs.Calls.{counts, leaves}
 
 -- Steps one after another are calls of a list.
 pub steps-calls : (k : ℕ) (m : Machine) (p : ℕ) → accepted (stepsOf k m p) ≡ true
-    → (stepsOf k m p .machine ≡ from m (replicate k (steps p))) × (tally (stepOfTaken p) m (replicate k (steps p)) ≡ k)
-unfolding stepsOf from tally
+    → (stepsOf k m p .machine ≡ from m (replicate k (steps p))) × (tally (acceptedStepOf p) m (replicate k (steps p)) ≡ k)
+unfolding stepsOf leaves counts
 steps-calls zero m p a = (refl, refl)
 steps-calls (suc k) m p a = go (accepted (stepOf m p)) refl (steps-calls k (stepOf m p .machine) p)
   where
@@ -45,9 +46,9 @@ steps-calls (suc k) m p a = go (accepted (stepOf m p)) refl (steps-calls k (step
     go : (b : Bool) → accepted (stepOf m p) ≡ b
         → (accepted (stepsOf k (stepOf m p .machine) p) ≡ true
         → (stepsOf k (stepOf m p .machine) p .machine ≡ from (stepOf m p .machine) (replicate k (steps p)))
-        × (tally (stepOfTaken p) (stepOf m p .machine) (replicate k (steps p)) ≡ k))
+        × (tally (acceptedStepOf p) (stepOf m p .machine) (replicate k (steps p)) ≡ k))
         → (stepsOf (suc k) m p .machine ≡ from (stepOf m p .machine) (replicate k (steps p)))
-        × (tick (stepOfTaken p (steps p) (stepOf m p)) + tally (stepOfTaken p) (stepOf m p .machine) (replicate k (steps p)) ≡ suc k)
+        × (tick (acceptedStepOf p (steps p) (accepted (stepOf m p))) + tally (acceptedStepOf p) (stepOf m p .machine) (replicate k (steps p)) ≡ suc k)
     go true t further =
         let r = further (sym (ap accepted (steps-on k m p t)) ∙ a) in (
           ap (λ c. c .machine) (steps-on k m p t) ∙ r .0,
@@ -123,14 +124,14 @@ alone-finishes n lo hi cs p lp hp came alive going = go (stageOf (runs n cs) p) 
         ds : List Call
         ds = replicate more (steps p)
 
-        as-calls : (stepsOf more (runs n cs) p .machine ≡ from (runs n cs) ds) × (tally (stepOfTaken p) (runs n cs) ds ≡ more)
+        as-calls : (stepsOf more (runs n cs) p .machine ≡ from (runs n cs) ds) × (tally (acceptedStepOf p) (runs n cs) ds ≡ more)
         as-calls = steps-calls more (runs n cs) p (ap accepted (done .steps) ∙ yes-taken)
 
         left : finishOf (runs n cs) p .machine ≡ runs n (cs ++ ds)
-        left = sym (ap (λ c. c .machine) (done .steps)) ∙ as-calls .0 ∙ sym (from-append (fresh n) cs ds)
+        left = sym (ap (λ c. c .machine) (done .steps)) ∙ as-calls .0 ∙ sym (leaves-append machineTaker (fresh n) cs ds)
 
         all : acceptedSteps n (cs ++ ds) p ≡ acceptedSteps n cs p + more
-        all = tally-append (stepOfTaken p) (fresh n) cs ds ∙ ap (λ k. acceptedSteps n cs p + k) (as-calls .1)
+        all = counts-append machineTaker (acceptedStepOf p) (fresh n) cs ds ∙ ap (λ k. acceptedSteps n cs p + k) (as-calls .1)
 
         most : acceptedSteps n (cs ++ ds) p ≤ n * (n + 1)
         most = subst (λ k. k ≤ n * (n + 1)) (accesses-counted n lo hi (cs ++ ds) p lp hp) bounded
@@ -149,7 +150,7 @@ wait-free n lo hi cs p lp hp came alive k enough = go (finished (stageOf (runs n
     -- once it has finished, further steps change nothing
     after-all : (before rest : List Call) → finished (stageOf (runs n before) p) ≡ true → finished (stageOf (runs n (before ++ rest)) p) ≡ true
     after-all before rest t =
-        subst (λ m. finished (stageOf m p) ≡ true) (sym (from-append (fresh n) before rest))
+        subst (λ m. finished (stageOf m p) ≡ true) (sym (leaves-append machineTaker (fresh n) before rest))
         (ap (λ P. finished (P .stage)) (finished-from n (runs n before) (every-state-shaped n lo hi before) p lp t rest) ∙ t)
 
     go : (b : Bool) → finished (stageOf (runs n cs) p) ≡ b → finished (stageOf (runs n (cs ++ replicate k (steps p))) p) ≡ true

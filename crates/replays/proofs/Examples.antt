@@ -10,7 +10,7 @@ use Rattle.rules.specs.declared.Called.{Called}
 use Rattle.rules.specs.Calls.{accepted, fresh}
 use Rattle.rules.proofs.Laws.Keeps.{meets-fresh}
 use Rattle.rules.proofs.Laws.Bare.{step-bare}
-use Rattle.history.specs.Runs.{steps, from, tally, allSteps, refusedCalls, stepTaken, notTaken}
+use Rattle.history.specs.Runs.{steps, from, tally, allSteps, refusedCalls, acceptedStep, isRefused}
 use Rattle.history.specs.Examples.{printed}
 use Rattle.history.proofs.Examples.{printed-counts}
 use Rattle.formats.specs.declared.FileAnswer.the-variants.{Whole}
@@ -21,6 +21,7 @@ use Rattle.text.specs.Parts.{joined}
 use Rattle.formats.specs.ViewFile.{viewBytes, fileOf}
 use Rattle.replays.specs.Writes.{viewsOf, bytesOf}
 use Rattle.replays.specs.Examples.{Runs, printedFile, Printed, Small, Refused, Written}
+use Rattle.world.specs.Calls.{counts, leaves}
 
 -- what the printed file holds, with a budget of 12 or more
 holds-printed : ordersFrom 65535 printedFile 3 ≡ record { answer = Whole; place = 47; calls = printed }
@@ -55,7 +56,7 @@ printed-example =
     }
 
 pub small-examples : Small
-unfolding replayOf headerOf ordersFrom orderAt markAt markOf tally from
+unfolding replayOf headerOf ordersFrom orderAt markAt markOf counts leaves
 small-examples =
     record {
       spent-none = record { number-is = refl; place-is = refl; taken-is = refl; accesses-is = refl; refused-is = refl };
@@ -79,12 +80,12 @@ small-examples =
     }
 
 -- process 3 of 2 is refused
-one-refused : tally notTaken (fresh 2) (steps 3 ∷ []) ≡ 1
-unfolding tally
+one-refused : tally isRefused (fresh 2) (steps 3 ∷ []) ≡ 1
+unfolding counts
 one-refused = ap (λ (c : Called). tick (not (accepted c)) + 0) (step-bare 2 (fresh 2) (meets-fresh 2 (lit≤ tt) (lit≤ tt)) 3)
 
-no-access : tally stepTaken (fresh 2) (steps 3 ∷ []) ≡ 0
-unfolding tally
+no-access : tally acceptedStep (fresh 2) (steps 3 ∷ []) ≡ 0
+unfolding counts
 no-access = ap (λ (c : Called). tick (accepted c) + 0) (step-bare 2 (fresh 2) (meets-fresh 2 (lit≤ tt) (lit≤ tt)) 3)
 
 pub refused-examples : Refused

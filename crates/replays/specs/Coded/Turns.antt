@@ -7,7 +7,7 @@ use Rattle.sets.specs.Sets.{tick}
 use Rattle.rules.specs.declared.Answer.{Answer}
 use Rattle.rules.specs.declared.Machine.{Machine}
 use Rattle.rules.specs.Calls.{numberOf}
-use Rattle.history.specs.Runs.{Call, answer, from, tally, isStep, stepTaken, notTaken}
+use Rattle.history.specs.Runs.{Call, answer, from, tally, isStep, acceptedStep, isRefused}
 use Rattle.formats.specs.declared.FileAnswer.{FileAnswer}
 use Rattle.replays.specs.declared.Counts.{Counts}
 use Rattle.replays.specs.declared.Replayed.{Replayed}
@@ -41,8 +41,8 @@ resumed k m o =
       answer = o .answer;
       place = o .place;
       taken = k .taken + length (o .calls);
-      accesses = k .accesses + tally stepTaken m (o .calls);
-      refused = k .refused + tally notTaken m (o .calls);
+      accesses = k .accesses + tally acceptedStep m (o .calls);
+      refused = k .refused + tally isRefused m (o .calls);
       machine = from m (o .calls);
     }
 
