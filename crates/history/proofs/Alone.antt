@@ -21,19 +21,20 @@ use Rattle.rules.proofs.Laws.Table.{table-of-numbers}
 use Rattle.rules.proofs.Laws.Steps.{steps-on, steps-off}
 use Rattle.rules.proofs.Laws.Accesses.{accesses-of-calls}
 use Rattle.rules.proofs.Laws.Finishing.{finishes-unless-sticks, finishing-alone}
-use Rattle.history.specs.Runs.{Call, steps, crashes, answer, from, runs, tally, acceptedStepOf, acceptedSteps}
+use Rattle.history.specs.Runs.{Call, steps, crashes, answer, machineTaker, from, runs, tally, acceptedStepOf, acceptedSteps}
 use Rattle.history.specs.Theorems.{AloneNeverOneNorSeven, FinishesAlone, AloneFinishes, WaitFree}
-use Rattle.history.proofs.Appends.{from-append, tally-append}
+use Rattle.world.proofs.Laws.{leaves-append, counts-append}
 use Rattle.history.proofs.Moves.{every-state-shaped}
 use Rattle.history.proofs.Stays.{finished-from}
 use Rattle.history.proofs.Counts.{accesses-counted}
 use Rattle.history.proofs.Invariant.{Inv, inv-from, inv-runs}
 use Rattle.history.proofs.Answers.{answer-fine}
+use Rattle.world.specs.Calls.{counts, leaves}
 
 -- Steps one after another are calls of a list.
 pub steps-calls : (k : ℕ) (m : Machine) (p : ℕ) → accepted (stepsOf k m p) ≡ true
     → (stepsOf k m p .machine ≡ from m (replicate k (steps p))) × (tally (acceptedStepOf p) m (replicate k (steps p)) ≡ k)
-unfolding stepsOf from tally
+unfolding stepsOf leaves counts
 steps-calls zero m p a = (refl, refl)
 steps-calls (suc k) m p a = go (accepted (stepOf m p)) refl (steps-calls k (stepOf m p .machine) p)
   where
@@ -45,7 +46,7 @@ steps-calls (suc k) m p a = go (accepted (stepOf m p)) refl (steps-calls k (step
         → (stepsOf k (stepOf m p .machine) p .machine ≡ from (stepOf m p .machine) (replicate k (steps p)))
         × (tally (acceptedStepOf p) (stepOf m p .machine) (replicate k (steps p)) ≡ k))
         → (stepsOf (suc k) m p .machine ≡ from (stepOf m p .machine) (replicate k (steps p)))
-        × (tick (acceptedStepOf p (steps p) (stepOf m p)) + tally (acceptedStepOf p) (stepOf m p .machine) (replicate k (steps p)) ≡ suc k)
+        × (tick (acceptedStepOf p (steps p) (accepted (stepOf m p))) + tally (acceptedStepOf p) (stepOf m p .machine) (replicate k (steps p)) ≡ suc k)
     go true t further =
         let r = further (sym (ap accepted (steps-on k m p t)) ∙ a) in (
           ap (λ c. c .machine) (steps-on k m p t) ∙ r .0,
@@ -97,7 +98,7 @@ alone-finishes n lo hi cs p lp hp came alive going = go (stageOf (runs n cs) p) 
           accepts = accepts;
           more = more;
           calls = left;
-          ended = subst (λ m. finished (stageOf m p) ≡ true) (as-calls .0 ∙ sym (from-append (fresh n) cs ds)) (done .ended);
+          ended = subst (λ m. finished (stageOf m p) ≡ true) (as-calls .0 ∙ sym (leaves-append machineTaker (fresh n) cs ds)) (done .ended);
           all = all;
           most = most;
         }
@@ -127,10 +128,10 @@ alone-finishes n lo hi cs p lp hp came alive going = go (stageOf (runs n cs) p) 
         left : finishOf (runs n cs) p .machine ≡ runs n (cs ++ ds)
         left =
             ap (λ c. c .machine) (finishing-alone .equals (runs n cs) (I .meets .held) p accepts done) ∙ as-calls .0
-            ∙ sym (from-append (fresh n) cs ds)
+            ∙ sym (leaves-append machineTaker (fresh n) cs ds)
 
         all : acceptedSteps n (cs ++ ds) p ≡ acceptedSteps n cs p + more
-        all = tally-append (acceptedStepOf p) (fresh n) cs ds ∙ ap (λ k. acceptedSteps n cs p + k) (as-calls .1)
+        all = counts-append machineTaker (acceptedStepOf p) (fresh n) cs ds ∙ ap (λ k. acceptedSteps n cs p + k) (as-calls .1)
 
         most : acceptedSteps n (cs ++ ds) p ≤ n * (n + 1)
         most = subst (λ k. k ≤ n * (n + 1)) (accesses-counted n lo hi (cs ++ ds) p lp hp) bounded
@@ -149,7 +150,7 @@ wait-free n lo hi cs p lp hp came alive k enough = go (finished (stageOf (runs n
     -- once it has finished, further steps change nothing
     after-all : (before rest : List Call) → finished (stageOf (runs n before) p) ≡ true → finished (stageOf (runs n (before ++ rest)) p) ≡ true
     after-all before rest t =
-        subst (λ m. finished (stageOf m p) ≡ true) (sym (from-append (fresh n) before rest))
+        subst (λ m. finished (stageOf m p) ≡ true) (sym (leaves-append machineTaker (fresh n) before rest))
         (ap (λ P. finished (P .stage)) (finished-from n (runs n before) (every-state-shaped n lo hi before) p lp t rest) ∙ t)
 
     go : (b : Bool) → finished (stageOf (runs n cs) p) ≡ b → finished (stageOf (runs n (cs ++ replicate k (steps p))) p) ≡ true

@@ -23,8 +23,9 @@ use Rattle.rules.proofs.Laws.Shape.{record-shaped}
 use Rattle.rules.proofs.Laws.Did.{DidStep, did-write, did-read, did-finish, did-fall, DidStick}
 use Rattle.rules.proofs.Laws.Did.{goes-on, makes-step, running, some}
 use Rattle.history.specs.Runs.{Call, enters, steps, crashes, answer, runs}
-use Rattle.history.specs.Figure.{accesses, programAt, programOf}
-use Rattle.history.specs.Theorems.{NeverOneNorSeven, AcceptedWhileAccesses}
+use Rattle.world.specs.Programs.{accesses}
+use Rattle.history.specs.AsWorld.{programAt, programOf}
+use Rattle.history.specs.Theorems.{NeverOneNorSeven}
 use Rattle.history.proofs.Moves.{every-state-shaped}
 use Rattle.history.proofs.Figure.{program-goes}
 use Rattle.history.proofs.Invariant.{MissedNothing, Inv, in-row, row-most, all-found, made-entered, inv-runs}
@@ -138,7 +139,7 @@ did-accepted m p c (did-read x k f was lo hi left) = ap accepted left
 did-accepted m p c (did-finish x f was e left) = ap accepted left
 did-accepted m p c (did-fall x f was e two left) = ap accepted left
 
-step-accesses : (m : Machine) → Inv m → (p : ℕ) → Valid m p → accepted (stepOf m p) ≡ accesses (programOf m p)
+pub step-accesses : (m : Machine) → Inv m → (p : ℕ) → Valid m p → accepted (stepOf m p) ≡ accesses (programOf m p)
 unfolding stepOf
 step-accesses m I p ok = go (stageOf m p) refl
   where
@@ -159,13 +160,3 @@ step-accesses m I p ok = go (stageOf m p) refl
     go (Running x k f) e =
         moves (makes-step m p ok x k f e)
         ∙ sym (ap (λ t. accesses (programAt m p t (valueOf m p))) e ∙ program-goes m p x k f (valueOf m p) (running m p ok x k f e))
-
-pub accepted-while-accesses : AcceptedWhileAccesses
-accepted-while-accesses n lo hi cs p lp hp =
-    let I : Inv (runs n cs) = inv-runs n lo hi cs in
-    step-accesses (runs n cs) I p
-    (record {
-      shape = record-shaped (runs n cs) (I .meets .shape);
-      low = lp;
-      high = subst (λ k. p ≤ k) (sym (every-state-shaped n lo hi cs .size)) hp;
-    })

@@ -10,12 +10,13 @@ use Rattle.rules.specs.declared.Called.{Called}
 use Rattle.rules.specs.declared.Answer.the-variants.{NotShaped}
 use Rattle.rules.specs.State.{stageOf}
 use Rattle.rules.specs.Shape.{shaped}
-use Rattle.rules.specs.Calls.{refused, enterAt, enterOf, crashAt, crashOf}
+use Rattle.rules.specs.Calls.{accepted, refused, enterAt, enterOf, crashAt, crashOf}
 use Rattle.rules.specs.Statements.{Meets}
 use Rattle.rules.proofs.Laws.Small.{cond-true}
 use Rattle.rules.proofs.Laws.Shape.{record-shaped}
 use Rattle.rules.proofs.Laws.Bare.{inRange, bareStep, step-bare}
 use Rattle.history.specs.Runs.{Call, enters, steps, crashes, answer, after, from, tally}
+use Rattle.world.specs.Calls.{leaves, counts}
 use Rattle.history.proofs.Moves.{meets-after}
 
 unfoldable pub bareAnswer : Machine → Call → Called
@@ -50,16 +51,16 @@ abbrev pub end : Trace → Machine
 end (last m) = m
 end (next m c a t) = end t
 
-abbrev pub tallied : (Call → Called → Bool) → Trace → ℕ
+abbrev pub tallied : (Call → Bool → Bool) → Trace → ℕ
 tallied test (last m) = 0
-tallied test (next m c a t) = tick (test c a) + tallied test t
+tallied test (next m c a t) = tick (test c (accepted a)) + tallied test t
 
 pub from-end : (m : Machine) (cs : List Call) → from m cs ≡ end (traceBy answer m cs)
-unfolding from traceBy
+unfolding leaves traceBy
 from-end m [] = refl
 from-end m (c ∷ cs) = from-end (after m c) cs
 
-pub tally-tallied : (test : Call → Called → Bool) (m : Machine) (cs : List Call) → tally test m cs ≡ tallied test (traceBy answer m cs)
-unfolding tally traceBy
+pub tally-tallied : (test : Call → Bool → Bool) (m : Machine) (cs : List Call) → tally test m cs ≡ tallied test (traceBy answer m cs)
+unfolding counts traceBy
 tally-tallied test m [] = refl
-tally-tallied test m (c ∷ cs) = ap (λ k. tick (test c (answer m c)) + k) (tally-tallied test (after m c) cs)
+tally-tallied test m (c ∷ cs) = ap (λ k. tick (test c (accepted (answer m c))) + k) (tally-tallied test (after m c) cs)

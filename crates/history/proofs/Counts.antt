@@ -21,15 +21,16 @@ use Rattle.rules.proofs.Laws.Small.{equal-or-not}
 use Rattle.rules.proofs.Laws.Did.{what-calls-did}
 use Rattle.rules.proofs.Laws.Accesses.{accesses-of-calls}
 use Rattle.rules.proofs.Laws.Keeps.{every-state-meets}
-use Rattle.history.specs.Runs.{Call, enters, steps, crashes, answer, after, from, runs, tally, acceptedStepOf, acceptedStep, isAccepted, isRefused}
+use Rattle.history.specs.Runs.{Call, enters, steps, crashes, answer, after, from, runs, tally, acceptedStepOf, acceptedStep}
 use Rattle.history.specs.Theorems.{AccessesCounted, ExactSteps, EnoughSteps, total, CountsOfRuns}
 use Rattle.history.proofs.Moves.{meets-after, nobody-yet, every-state-shaped, by-call}
+use Rattle.world.specs.Calls.{counts, leaves}
 
 -- one call
 counted-once : (n : ℕ) (m : Machine) → Meets n m → (p : ℕ) → 1 ≤ p → (c : Call)
-    → accessesOf n (stageOf (after m c) p) ≡ accessesOf n (stageOf m p) + tick (acceptedStepOf p c (answer m c))
+    → accessesOf n (stageOf (after m c) p) ≡ accessesOf n (stageOf m p) + tick (acceptedStepOf p c (accepted (answer m c)))
 counted-once n m M p lp =
-    by-call m (M .held) p lp (λ c. accessesOf n (stageOf (after m c) p) ≡ accessesOf n (stageOf m p) + tick (acceptedStepOf p c (answer m c)))
+    by-call m (M .held) p lp (λ c. accessesOf n (stageOf (after m c) p) ≡ accessesOf n (stageOf m p) + tick (acceptedStepOf p c (accepted (answer m c))))
     (λ c e t _. ap (λ P. accessesOf n (P .stage)) e ∙ none _ ∙ sym (ap (λ b. accessesOf n (stageOf m p) + tick b) t))
     (λ v a.
     let e = at-n (λ k. (accessesOf k (stageOf m p) ≡ 0) × (accessesOf k (stageOf (after m (enters p v)) p) ≡ 0))
@@ -53,7 +54,7 @@ counted-once n m M p lp =
 
 pub counted-from : (n : ℕ) (m : Machine) → Meets n m → (p : ℕ) → 1 ≤ p → (cs : List Call)
     → accessesOf n (stageOf (from m cs) p) ≡ accessesOf n (stageOf m p) + tally (acceptedStepOf p) m cs
-unfolding from tally
+unfolding leaves counts
 counted-from n m M p lp [] = none _
   where
     none : (a : ℕ) → a ≡ a + 0
@@ -119,16 +120,6 @@ enough-steps n lo hi cs p lp hp enough = go (finished (stageOf (runs n cs) p)) r
         less : (a b c : ℕ) → a < c → a ≡ b → c ≤ b → ⊥
         less a b c h e l = omega arith
 
--- A call is accepted or refused.
-both-counts : (m : Machine) (cs : List Call) → tally isAccepted m cs + tally isRefused m cs ≡ length cs
-unfolding tally
-both-counts m [] = refl
-both-counts m (c ∷ cs) = one (accepted (answer m c)) _ _ _ (both-counts (after m c) cs)
-  where
-    one : (b : Bool) (x y l : ℕ) → x + y ≡ l → tick b + x + (tick (not b) + y) ≡ suc l
-    one true x y l e = omega arith
-    one false x y l e = omega arith
-
 -- A sum over 1 to k.
 total-zero : (f : ℕ → ℕ) (k : ℕ) → ((i : ℕ) → f i ≡ 0) → total f k ≡ 0
 unfolding total
@@ -170,7 +161,7 @@ total-one p (suc k) b lp hp = go (equal-or-not p (suc k)) (total-one p k b lp)
         let le : p ≤ k = omega arith in second _ _ _ (ap (λ t. tick (t && b)) (ne-eqb p (suc k) ne)) (further le)
 
 -- an accepted step is that of one process of 1 to n
-one-stepped : (n : ℕ) (m : Machine) → m .n ≡ n → (c : Call) → tick (acceptedStep c (answer m c)) ≡ total (λ p. tick (acceptedStepOf p c (answer m c))) n
+one-stepped : (n : ℕ) (m : Machine) → m .n ≡ n → (c : Call) → tick (acceptedStep c (accepted (answer m c))) ≡ total (λ p. tick (acceptedStepOf p c (accepted (answer m c)))) n
 one-stepped n m e (enters q v) = sym (total-zero _ n (λ i. refl))
 one-stepped n m e (crashes q) = sym (total-zero _ n (λ i. refl))
 one-stepped n m e (steps q) = go (accepted (stepOf m q)) refl
@@ -183,15 +174,15 @@ one-stepped n m e (steps q) = go (accepted (stepOf m q)) refl
     go false a = sym (total-zero (λ p. tick (eqb q p && false)) n (λ i. ap tick (and-false (eqb q i))))
 
 steps-in-all : (n : ℕ) (m : Machine) → Meets n m → (cs : List Call) → tally acceptedStep m cs ≡ total (λ p. tally (acceptedStepOf p) m cs) n
-unfolding tally
+unfolding counts
 steps-in-all n m M [] = sym (total-zero (λ p. 0) n (λ i. refl))
 steps-in-all n m M (c ∷ cs) =
     sum _ _ _ _ _ (one-stepped n m (M .size) c) (steps-in-all n (after m c) (meets-after n m M c) cs)
-    (total-add (λ p. tick (acceptedStepOf p c (answer m c)) + tally (acceptedStepOf p) (after m c) cs) (λ p. tick (acceptedStepOf p c (answer m c)))
+    (total-add (λ p. tick (acceptedStepOf p c (accepted (answer m c))) + tally (acceptedStepOf p) (after m c) cs) (λ p. tick (acceptedStepOf p c (accepted (answer m c))))
     (λ p. tally (acceptedStepOf p) (after m c) cs) n (λ i. refl))
   where
     sum : (a b d e t : ℕ) → a ≡ d → b ≡ e → t ≡ d + e → a + b ≡ t
     sum a b d e t p q r = omega arith
 
 pub counts-of-runs : CountsOfRuns
-counts-of-runs n lo hi cs = record { calls = both-counts (fresh n) cs; steps = steps-in-all n (fresh n) (every-state-meets .starts n lo hi) cs }
+counts-of-runs n lo hi cs = steps-in-all n (fresh n) (every-state-meets .starts n lo hi) cs

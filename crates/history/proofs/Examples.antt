@@ -1,78 +1,49 @@
--- The printed run, computed from its trace.
-use mathlib.Core.Path.{_≡_, refl, ap, _∙_}
-use mathlib.Core.Bool.{Bool, true, false, _&&_, _||_, cond}
+-- The printed run, computed on the world of Fig. 8.16, which the machine follows.
+use mathlib.Core.Path.{_≡_, refl, sym, ap, _∙_}
+use mathlib.Core.Bool.{Bool, true, false}
 use mathlib.Core.List.{List, [], _∷_}
-use Prim.Native.Nat.{ℕ}
-use lib.Dec.{eqb, lit≤}
-use Rattle.sets.specs.Sets.{has, plus, count, size}
+use Prim.Native.Nat.{ℕ, _≤_}
+use lib.Dec.{lit≤}
 use Rattle.rules.specs.declared.Machine.{Machine}
-use Rattle.rules.specs.declared.Called.{Called}
-use Rattle.rules.specs.State.{stageOf, levelOf}
-use Rattle.rules.specs.Calls.{accepted, fresh, enterOf, reading, settle, access}
-use Rattle.rules.proofs.Laws.Keeps.{meets-fresh}
-use Rattle.history.specs.Runs.{Call, enters, steps, crashes, answer, after, tally, acceptedStepOf, acceptedStep, isAccepted, isRefused}
-use Rattle.history.specs.Runs.{reachedFrom, gives, givenFrom, isEnterOf, enteredFrom, hasEntered}
-use Rattle.history.specs.Figure.{pairs, readings, programOf}
+use Rattle.rules.specs.Calls.{fresh}
+use Rattle.world.specs.Programs.{accesses}
+use Rattle.world.specs.Calls.{leaves, counts, ever, deposits, admits}
+use Rattle.world.specs.World.{World, start, worldTaker}
+use Rattle.world.proofs.Follows.{same-counts, same-deposits, same-admits}
+use Rattle.history.specs.Runs.{Call, enters, machineTaker, runs, tally, acceptedStepOf, acceptedStep, isAccepted, isRefused, reached, given, hasEntered}
+use Rattle.history.specs.Figure.{Address, Pair, Code, collect, pairs, rec-update-snapshot, figure}
+use Rattle.history.specs.AsWorld.{programOf, worldOf}
+use Rattle.history.specs.Demand.{figureRuns, begun}
 use Rattle.history.specs.Examples.{printed, PrintedCounts, PrintedLevels, PrintedEntered, PrintedViews}
-use Rattle.history.proofs.Bare.{bareAnswer, Trace, last, next, traceBy, trace-bare, end, tallied, from-end, tally-tallied}
+use Rattle.history.proofs.World.{OfRuns, machine-follows, of-runs, fresh-world, same-remains}
+use Rattle.history.proofs.Demand.{reached-is-begun}
 
--- What is defined by recursion on the list, read off its trace.
-abbrev reachedIn : ℕ → ℕ → Trace → Bool
-reachedIn x p (last m) = eqb (levelOf (stageOf m p)) x
-reachedIn x p (next m c a t) = eqb (levelOf (stageOf m p)) x || reachedIn x p t
+abbrev F : World Address (List Pair)
+F = start (figure 2)
 
-abbrev gift : Call → Called → ℕ → ℕ → ℕ
-gift (enters q v) a p other = cond (eqb q p) (cond (accepted a) v other) other
-gift (steps q) a p other = other
-gift (crashes q) a p other = other
+counted : (test : Call → Bool → Bool) (k : ℕ) → counts (worldTaker (figure 2)) test F printed ≡ k → tally test (fresh 2) printed ≡ k
+counted test k e =
+    same-counts machineTaker (worldTaker (figure 2)) worldOf (OfRuns 2) (machine-follows 2) test (fresh 2) (of-runs 2 (lit≤ tt) (lit≤ tt)) printed
+    ∙ ap (λ w. counts (worldTaker (figure 2)) test w printed) (fresh-world 2 (lit≤ tt) (lit≤ tt)) ∙ e
 
-abbrev givenIn : ℕ → Trace → ℕ
-givenIn p (last m) = 0
-givenIn p (next m c a t) = gift c a p (givenIn p t)
+deposited : (p v : ℕ) → deposits (worldTaker (figure 2)) F printed p ≡ v → given 2 printed p ≡ v
+deposited p v e =
+    same-deposits machineTaker (worldTaker (figure 2)) worldOf (OfRuns 2) (machine-follows 2) (fresh 2) (of-runs 2 (lit≤ tt) (lit≤ tt)) printed p
+    ∙ ap (λ w. deposits (worldTaker (figure 2)) w printed p) (fresh-world 2 (lit≤ tt) (lit≤ tt)) ∙ e
 
-reached-in : (m : Machine) (cs : List Call) (x p : ℕ) → reachedFrom m cs x p ≡ reachedIn x p (traceBy answer m cs)
-unfolding reachedFrom traceBy
-reached-in m [] x p = refl
-reached-in m (c ∷ cs) x p = ap (λ b. eqb (levelOf (stageOf m p)) x || b) (reached-in (after m c) cs x p)
+entered-by : (cs : List Call) (p : ℕ) (b : Bool) → admits (worldTaker (figure 2)) F cs p ≡ b → hasEntered 2 cs p ≡ b
+entered-by cs p b e =
+    same-admits machineTaker (worldTaker (figure 2)) worldOf (OfRuns 2) (machine-follows 2) (fresh 2) (of-runs 2 (lit≤ tt) (lit≤ tt)) cs p
+    ∙ ap (λ w. admits (worldTaker (figure 2)) w cs p) (fresh-world 2 (lit≤ tt) (lit≤ tt)) ∙ e
 
-gives-gift : (m : Machine) (c : Call) (p o : ℕ) → gives m c p o ≡ gift c (answer m c) p o
-gives-gift m (enters q v) p o = go (eqb q p) (accepted (enterOf m q v))
-  where
-    go : (a b : Bool) → cond (a && b) v o ≡ cond a (cond b v o) o
-    go true b = refl
-    go false b = refl
-gives-gift m (steps q) p o = refl
-gives-gift m (crashes q) p o = refl
+left : (p : ℕ) (P : Code) → 1 ≤ p → p ≤ 2 → figureRuns 2 printed .remains p ≡ P → programOf (runs 2 printed) p ≡ P
+left p P lp hp e = same-remains 2 (lit≤ tt) (lit≤ tt) printed p lp hp ∙ e
 
-given-in : (m : Machine) (cs : List Call) (p : ℕ) → givenFrom m cs p ≡ givenIn p (traceBy answer m cs)
-unfolding givenFrom traceBy
-given-in m [] p = refl
-given-in m (c ∷ cs) p = gives-gift m c p (givenFrom (after m c) cs p) ∙ ap (gift c (answer m c) p) (given-in (after m c) cs p)
-
-abbrev enteredIn : ℕ → Trace → Bool
-enteredIn p (last m) = false
-enteredIn p (next m c a t) = (isEnterOf p c && accepted a) || enteredIn p t
-
-entered-in : (m : Machine) (cs : List Call) (p : ℕ) → enteredFrom m cs p ≡ enteredIn p (traceBy answer m cs)
-unfolding enteredFrom traceBy
-entered-in m [] p = refl
-entered-in m (c ∷ cs) p = ap (λ b. (isEnterOf p c && accepted (answer m c)) || b) (entered-in (after m c) cs p)
-
--- The printed run.
-abbrev run : Trace
-run = traceBy bareAnswer (fresh 2) printed
-
-is-run : traceBy answer (fresh 2) printed ≡ run
-is-run = trace-bare 2 (fresh 2) (meets-fresh 2 (lit≤ tt) (lit≤ tt)) printed
-
-by-run {ℓ} : {A : Type ℓ} (read : Trace → A) {a b : A} → a ≡ read (traceBy answer (fresh 2) printed) → read run ≡ b → a ≡ b
-by-run read e q = e ∙ ap read is-run ∙ q
-
-counted : (test : Call → Called → Bool) (k : ℕ) → tallied test run ≡ k → tally test (fresh 2) printed ≡ k
-counted test k e = by-run (tallied test) (tally-tallied test (fresh 2) printed) e
+level : (x p : ℕ) (b : Bool) → 1 ≤ x → 1 ≤ p → p ≤ 2 → begun 2 printed x p ≡ b → reached 2 printed x p ≡ b
+level x p b lx lp hp e = reached-is-begun 2 (lit≤ tt) (lit≤ tt) printed x p lx lp hp ∙ e
 
 pub printed-counts : PrintedCounts
-unfolding traceBy bareAnswer access settle reading has plus count size
+unfolding leaves counts collect pairs rec-update-snapshot
 printed-counts =
     record {
       accepted = counted isAccepted 11 refl;
@@ -84,38 +55,32 @@ printed-counts =
     }
 
 pub printed-levels : PrintedLevels
-unfolding traceBy bareAnswer access settle reading has plus count size
+unfolding leaves ever collect pairs rec-update-snapshot
 printed-levels =
     record {
-      one-at-2 = by-run (reachedIn 2 1) (reached-in (fresh 2) printed 2 1) refl;
-      two-at-2 = by-run (reachedIn 2 2) (reached-in (fresh 2) printed 2 2) refl;
-      one-at-1 = by-run (reachedIn 1 1) (reached-in (fresh 2) printed 1 1) refl;
-      two-at-1 = by-run (reachedIn 1 2) (reached-in (fresh 2) printed 1 2) refl;
+      one-at-2 = level 2 1 true (lit≤ tt) (lit≤ tt) (lit≤ tt) refl;
+      two-at-2 = level 2 2 true (lit≤ tt) (lit≤ tt) (lit≤ tt) refl;
+      one-at-1 = level 1 1 true (lit≤ tt) (lit≤ tt) (lit≤ tt) refl;
+      two-at-1 = level 1 2 false (lit≤ tt) (lit≤ tt) (lit≤ tt) refl;
     }
 
-entered-none : hasEntered 2 (enters 3 7 ∷ []) 3 ≡ false
-unfolding traceBy bareAnswer
-entered-none =
-    entered-in (fresh 2) (enters 3 7 ∷ []) 3
-    ∙ ap (enteredIn 3) (trace-bare 2 (fresh 2) (meets-fresh 2 (lit≤ tt) (lit≤ tt)) (enters 3 7 ∷ []))
-
 pub printed-entered : PrintedEntered
-unfolding traceBy bareAnswer access settle reading has plus count size
+unfolding leaves admits collect pairs rec-update-snapshot
 printed-entered =
     record {
-      one = by-run (enteredIn 1) (entered-in (fresh 2) printed 1) refl;
-      two = by-run (enteredIn 2) (entered-in (fresh 2) printed 2) refl;
-      three = by-run (enteredIn 3) (entered-in (fresh 2) printed 3) refl;
-      refused = entered-none;
+      one = entered-by printed 1 true refl;
+      two = entered-by printed 2 true refl;
+      three = entered-by printed 3 false refl;
+      refused = entered-by (enters 3 7 ∷ []) 3 false refl;
     }
 
 pub printed-views : PrintedViews
-unfolding traceBy bareAnswer access settle reading has plus count size pairs readings
+unfolding leaves deposits collect pairs rec-update-snapshot
 printed-views =
     record {
-      one-given = by-run (givenIn 1) (given-in (fresh 2) printed 1) refl;
-      two-given = by-run (givenIn 2) (given-in (fresh 2) printed 2) refl;
-      nobody-given = by-run (givenIn 3) (given-in (fresh 2) printed 3) refl;
-      one = by-run (λ t. programOf (end t) 1) (ap (λ m. programOf m 1) (from-end (fresh 2) printed)) refl;
-      two = by-run (λ t. programOf (end t) 2) (ap (λ m. programOf m 2) (from-end (fresh 2) printed)) refl;
+      one-given = deposited 1 7 refl;
+      two-given = deposited 2 9 refl;
+      nobody-given = deposited 3 0 refl;
+      one = left 1 _ (lit≤ tt) (lit≤ tt) refl;
+      two = left 2 _ (lit≤ tt) (lit≤ tt) refl;
     }

@@ -14,22 +14,46 @@ use Rattle.sets.proofs.Laws.{has-zero, has-known}
 use Rattle.rules.specs.declared.Stage.{Stage}
 use Rattle.rules.specs.declared.Stage.the-variants.{Absent, Running, Finished, Crashed}
 use Rattle.rules.specs.declared.Machine.{Machine}
-use Rattle.rules.specs.State.{stageOf, valueOf, rowIn, rowOf, cellOf, finished, crashed, levelOf, madeOf, foundOf, wrote}
+use Rattle.rules.specs.State.{processOf, stageOf, valueOf, rowIn, rowOf, cellOf, finished, crashed, levelOf, madeOf, foundOf, wrote}
 use Rattle.rules.specs.Shape.{Held, Going, Ended, ShapedStage, Shaped}
-use Rattle.rules.specs.Calls.{stepOf, enterOf, crashOf, reading}
+use Rattle.rules.specs.Calls.{accepted, stepOf, enterOf, crashOf, reading}
 use Rattle.rules.specs.Statements.{Valid, OthersStay, RegistersStay, StepEffect, EnterEffect, CrashEffect, atLast}
 use Rattle.rules.proofs.Laws.Small.{not-both, is-false, equal-or-not, cond-true, cond-false}
 use Rattle.rules.proofs.Laws.Wrote.{wrote-lowest}
 use Rattle.rules.proofs.Laws.Shape.{shaped-record}
 use Rattle.rules.proofs.Laws.Did.{running, some, what-calls-did}
 use Rattle.rules.proofs.Laws.Effects.{in-range, effects-of-calls}
-use Rattle.history.specs.Figure.{Register, empty, holds, Pair, Program, writes, reads, returns, halted, collect, pairs, judge}
-use Rattle.history.specs.Figure.{rec-update-snapshot}
-use Rattle.history.specs.Figure.{registersAfter, remains, accesses, register, readings, programAt, programOf}
+use Rattle.world.specs.Programs.{Register, empty, holds, writes, reads, returns, halted, accesses, registersAfter, remainsAfter}
+use Rattle.history.specs.Figure.{Address, REG, sameAddress, Pair, Code, collect, pairs, judge, rec-update-snapshot, update-snapshot}
+use Rattle.history.specs.AsWorld.{register, readings, programAt, programOf}
 use Rattle.history.specs.Views.{View}
-use Rattle.history.specs.Theorems.{FirstAccess, StepIsFirstAccess, NoAccess, EnterIsStart, CrashIsEnd, Returned, ViewIsReturned}
+use Rattle.history.specs.Theorems.{Returned, ViewIsReturned}
 use Rattle.history.proofs.Found.{reading-here, reading-other, read-stands, size-stands}
 use Rattle.history.proofs.Moves.{Stepped, writing, finding, ending, falling, stepped}
+
+-- the registers of a machine by their address
+abbrev pub REGS : Machine → Address → Register
+REGS m a = register m (a .row) (a .register)
+
+-- What an accepted step of process p does to m, in the figure's terms; m′ is what it leaves.
+pub record FirstAccess (m m′ : Machine) (p : ℕ) : Type 0 where
+  pub size : m′ .n ≡ m .n
+  -- the program of p begins with an access, which is made on the registers as they stand,
+  pub one : accesses (programOf m p) ≡ true
+  pub registers : (y j : ℕ) → 1 ≤ y → y ≤ 32 → 1 ≤ j → j ≤ 32
+      → register m′ y j ≡ registersAfter sameAddress (REGS m) (programOf m p) (REG y j)
+  -- and what remains of the program is left to p;
+  pub rest : programOf m′ p ≡ remainsAfter (REGS m) (programOf m p)
+  -- the others are as they were, and so is what they have yet to do
+  pub others : (q : ℕ) → 1 ≤ q → q ≢ p → processOf m′ q ≡ processOf m q
+  pub programs : (q : ℕ) → 1 ≤ q → q ≤ 32 → q ≢ p → programOf m′ q ≡ programOf m q
+
+-- An enter and a crash make no access.
+pub record NoAccess (m m′ : Machine) (p : ℕ) : Type 0 where
+  pub size : m′ .n ≡ m .n
+  pub registers : (y j : ℕ) → register m′ y j ≡ register m y j
+  pub others : (q : ℕ) → 1 ≤ q → q ≢ p → processOf m′ q ≡ processOf m q
+  pub programs : (q : ℕ) → 1 ≤ q → q ≢ p → programOf m′ q ≡ programOf m q
 
 abbrev cellIn : List ℕ → ℕ → ℕ → ℕ
 cellIn cells x i = getD cells (32 * (x - 1) + (i - 1)) 0
@@ -74,27 +98,27 @@ program-alike m m′ q (Finished x w) v e cells =
 program-alike m m′ q (Crashed x k f) v e cells = refl
 
 -- Line 3.
-rec-writes : (n i x v : ℕ) → 1 ≤ x
-    → rec-update-snapshot n i x v ≡ writes x i v (collect n x 1 [] (λ reg. judge x (pairs 1 reg) (rec-update-snapshot n i (x - 1) v)))
+pub rec-writes : (n i x v : ℕ) → 1 ≤ x
+    → rec-update-snapshot n i x v ≡ writes (REG x i) v (collect n x 1 [] (λ reg. judge x (pairs 1 reg) (rec-update-snapshot n i (x - 1) v)))
 unfolding rec-update-snapshot
 rec-writes n i zero v lo = absurd (omega arith)
 rec-writes n i (suc x) v lo =
     let e : x ≡ suc x - 1 = omega arith in
-    ap (λ y. writes (suc x) i v (collect n (suc x) 1 [] (λ reg. judge (suc x) (pairs 1 reg) (rec-update-snapshot n i y v)))) e
+    ap (λ y. writes (REG (suc x) i) v (collect n (suc x) 1 [] (λ reg. judge (suc x) (pairs 1 reg) (rec-update-snapshot n i y v)))) e
 
 -- Line 4: the read of register k + 1.
-abbrev lines5to9 : ℕ → ℕ → ℕ → ℕ → List Register → Program
+abbrev pub lines5to9 : ℕ → ℕ → ℕ → ℕ → List Register → Code
 lines5to9 n i x v reg = judge x (pairs 1 reg) (rec-update-snapshot n i (x - 1) v)
 
-collect-reads : (left rest x j : ℕ) (reg : List Register) (next : List Register → Program) → left ≡ suc rest
-    → collect left x j reg next ≡ reads x j (λ r. collect rest x (suc j) (reg ++ (r ∷ [])) next)
+collect-reads : (left rest x j : ℕ) (reg : List Register) (next : List Register → Code) → left ≡ suc rest
+    → collect left x j reg next ≡ reads (REG x j) (λ r. collect rest x (suc j) (reg ++ (r ∷ [])) next)
 unfolding collect
 collect-reads left rest x j reg next e = ap (λ l. collect l x j reg next) e
 
-abbrev afterRead : Machine → ℕ → ℕ → ℕ → ℕ → ℕ → Register → Program
+abbrev pub afterRead : Machine → ℕ → ℕ → ℕ → ℕ → ℕ → Register → Code
 afterRead m i x k f v r = collect (m .n - suc k) x (suc (suc k)) (readings m x f k ++ (r ∷ [])) (lines5to9 (m .n) i x v)
 
-running-reads : (m : Machine) (i x k f v : ℕ) → suc k ≤ m .n → programAt m i (Running x (suc k) f) v ≡ reads x (suc k) (afterRead m i x k f v)
+pub running-reads : (m : Machine) (i x k f v : ℕ) → suc k ≤ m .n → programAt m i (Running x (suc k) f) v ≡ reads (REG x (suc k)) (afterRead m i x k f v)
 running-reads m i x k f v le =
     let e : m .n - k ≡ suc (m .n - suc k) = omega arith in
     collect-reads (m .n - k) (m .n - suc k) x (suc k) (readings m x f k) (lines5to9 (m .n) i x v) e
@@ -198,18 +222,17 @@ module _ (m m′ : Machine) (h : Held m) (p : ℕ) (ok : Valid m p) (effect : St
       let s = stands (stageOf m q) (shape .process q lq hq .stage) i t in kept-cell did (levelOf (stageOf m q)) i (s .0) (s .1) (s .2))
 
   -- The access P is made, and p is left at stage s.
-  made : Stepped m m′ p → (P : Program) → programOf m p ≡ P → accesses P ≡ true
-      → ((y j : ℕ) → 1 ≤ y → y ≤ 32 → 1 ≤ j → j ≤ 32 → register m′ y j ≡ registersAfter (register m) P y j)
+  made : Stepped m m′ p → (P : Code) → programOf m p ≡ P → accesses P ≡ true
+      → ((y j : ℕ) → 1 ≤ y → y ≤ 32 → 1 ≤ j → j ≤ 32 → register m′ y j ≡ registersAfter sameAddress (REGS m) P (REG y j))
       → (s : Stage) → stageOf m′ p ≡ s → ((i : ℕ) → has (foundOf s) i ≡ true → cellOf m′ (levelOf s) i ≡ cellOf m (levelOf s) i)
-      → programAt m p s v ≡ remains (register m) P → FirstAccess m m′ p
+      → programAt m p s v ≡ remainsAfter (REGS m) P → FirstAccess m m′ p
   made did P is one regs s now cells rest =
       record {
         size = effect .rest .size;
         one = ap accesses is ∙ one;
-        registers = λ y j ly hy lj hj. regs y j ly hy lj hj ∙ sym (ap (λ Q. registersAfter (register m) Q y j) is);
+        registers = λ y j ly hy lj hj. regs y j ly hy lj hj ∙ sym (ap (λ Q. registersAfter sameAddress (REGS m) Q (REG y j)) is);
         rest = ap₂ (λ (t : Stage) (u : ℕ). programAt m′ p t u) now (effect .value) ∙ program-alike m m′ p s v (effect .rest .size) cells ∙ rest
-            ∙ sym (ap (remains (register m)) is);
-        value = effect .value;
+            ∙ sym (ap (remainsAfter (REGS m)) is);
         others = effect .rest .others;
         programs = same-programs did;
       }
@@ -218,7 +241,7 @@ module _ (m m′ : Machine) (h : Held m) (p : ℕ) (ok : Valid m p) (effect : St
   write-access : (x f : ℕ) → (was : stageOf m p ≡ Running x 0 f) → stageOf m′ p ≡ Running x 1 f → FirstAccess m m′ p
   unfolding readings
   write-access x f was now =
-      made (writing x f was now) (writes x p v (collect (m .n) x 1 [] (lines5to9 (m .n) p x v)))
+      made (writing x f was now) (writes (REG x p) v (collect (m .n) x 1 [] (lines5to9 (m .n) p x v)))
       (ap (λ s. programAt m p s v) was ∙ rec-writes (m .n) p x v (g .low)) refl regs (Running x 1 f) now
       (λ i t. absurd (nothing i (g .read i t)))
       (ap (λ l. collect l x 1 (readings m x f 0) (lines5to9 (m .n) p x v)) all)
@@ -260,7 +283,7 @@ module _ (m m′ : Machine) (h : Held m) (p : ℕ) (ok : Valid m p) (effect : St
   read-access : (x k f : ℕ) → stageOf m p ≡ Running x (suc k) f → suc k ≤ m .n → Stepped m m′ p → (s : Stage) → stageOf m′ p ≡ s
       → programAt m p s v ≡ afterRead m p x k f v (register m x (suc k)) → FirstAccess m m′ p
   read-access x k f was le did s now rest =
-      made did (reads x (suc k) (afterRead m p x k f v)) (ap (λ s. programAt m p s v) was ∙ running-reads m p x k f v le) refl
+      made did (reads (REG x (suc k)) (afterRead m p x k f v)) (ap (λ s. programAt m p s v) was ∙ running-reads m p x k f v le) refl
       (λ y j _ _ _ _. register-stays m m′ stay y j) s now (λ i t. ap (λ l. cellIn l (levelOf s) i) (stay .cells)) rest
     where
       stay : RegistersStay m m′
@@ -326,7 +349,7 @@ module _ (m m′ : Machine) (h : Held m) (p : ℕ) (ok : Valid m p) (effect : St
       (sym (cond-false (eqb (length (pairs 1 (readings m x (atLast m x f) (m .n)))) x) (returns (pairs 1 (readings m x (atLast m x f) (m .n)))) _
       (ne-eqb _ x (λ q. ne (sym (view-size x f was) ∙ q)))))
 
-pub step-is-first-access : StepIsFirstAccess
+pub step-is-first-access : (m : Machine) → Held m → (p : ℕ) → accepted (stepOf m p) ≡ true → FirstAccess m (stepOf m p .machine) p
 step-is-first-access m h p a =
     first-access m (stepOf m p .machine) h p (what-calls-did .step m p a .0) (effects-of-calls .step m h p a) (stepped m h p a)
 
@@ -342,7 +365,8 @@ no-access m m′ p rest stay =
           ∙ program-alike m m′ q (stageOf m q) (valueOf m q) (rest .size) (λ i _. ap (λ l. cellIn l (levelOf (stageOf m q)) i) (stay .cells));
     }
 
-pub enter-is-start : EnterIsStart
+pub enter-is-start : (m : Machine) → Held m → (p v : ℕ) → accepted (enterOf m p v) ≡ true
+    → (programOf (enterOf m p v .machine) p ≡ update-snapshot (m .n) p v) × NoAccess m (enterOf m p v .machine) p
 enter-is-start m h p v a =
     let e : EnterEffect m (enterOf m p v .machine) p v = effects-of-calls .enter m h p v a in (
       ap₂ (λ (s : Stage) (u : ℕ). programAt (enterOf m p v .machine) p s u) (e .stage) (e .value)
@@ -350,7 +374,8 @@ enter-is-start m h p v a =
       no-access m (enterOf m p v .machine) p (e .rest) (e .registers),
     )
 
-pub crash-is-end : CrashIsEnd
+pub crash-is-end : (m : Machine) → Held m → (p : ℕ) → accepted (crashOf m p) ≡ true
+    → (programOf (crashOf m p .machine) p ≡ halted) × NoAccess m (crashOf m p .machine) p
 crash-is-end m h p a =
     let e : CrashEffect m (crashOf m p .machine) p = effects-of-calls .crash m h p a in
     (halts (stageOf (crashOf m p .machine) p) (e .never-moves), no-access m (crashOf m p .machine) p (e .rest) (e .registers))

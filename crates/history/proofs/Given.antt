@@ -14,10 +14,11 @@ use Rattle.rules.proofs.Laws.Small.{not-both}
 use Rattle.rules.proofs.Laws.Did.{what-calls-did}
 use Rattle.rules.proofs.Laws.Keeps.{every-state-meets}
 use Rattle.rules.proofs.Laws.Effects.{effects-of-calls}
-use Rattle.history.specs.Runs.{Call, enters, steps, crashes, answer, after, from, runs, gives, givenFrom, given, isEnterOf, enteredFrom}
+use Rattle.history.specs.Runs.{Call, enters, steps, crashes, answer, after, from, runs, given, isEnterOf, enteredFrom}
 use Rattle.history.specs.Theorems.{EnteredByCall}
-use Rattle.history.proofs.Moves.{nobody-yet, meets-after, stepped, by-call}
+use Rattle.history.proofs.Moves.{gives, givenFrom, nobody-yet, meets-after, stepped, by-call}
 use Rattle.history.proofs.Levels.{step-falls, crashed-entered}
+use Rattle.world.specs.Calls.{leaves, deposits, admits}
 
 -- whoever has entered keeps its value
 keeps : (n : ℕ) (m : Machine) → Meets n m → (p : ℕ) → 1 ≤ p → entered (stageOf m p) ≡ true → (c : Call)
@@ -31,7 +32,7 @@ keeps n m M p lp was =
 
 pub kept-from : (n : ℕ) (m : Machine) → Meets n m → (p : ℕ) → 1 ≤ p → entered (stageOf m p) ≡ true → (cs : List Call)
     → (entered (stageOf (from m cs) p) ≡ true) × (valueOf (from m cs) p ≡ valueOf m p)
-unfolding from
+unfolding leaves
 kept-from n m M p lp was [] = (was, refl)
 kept-from n m M p lp was (c ∷ cs) =
     let k = keeps n m M p lp was c in
@@ -40,7 +41,7 @@ kept-from n m M p lp was (c ∷ cs) =
 
 given-from : (n : ℕ) (m : Machine) → Meets n m → (p : ℕ) → 1 ≤ p → p ≤ 32 → entered (stageOf m p) ≡ false → (cs : List Call)
     → valueOf (from m cs) p ≡ givenFrom m cs p
-unfolding from givenFrom
+unfolding leaves deposits
 given-from n m M p lp hp none [] = M .shape .process p lp hp .absent none
 given-from n m M p lp hp none (c ∷ cs) =
     by-call m (M .held) p lp (λ c. valueOf (from (after m c) cs) p ≡ gives m c p (givenFrom (after m c) cs p))
@@ -84,7 +85,7 @@ enters-once n m M p lp =
 
 entered-from : (n : ℕ) (m : Machine) → Meets n m → (p : ℕ) → 1 ≤ p → (cs : List Call)
     → entered (stageOf (from m cs) p) ≡ (entered (stageOf m p) || enteredFrom m cs p)
-unfolding from enteredFrom
+unfolding leaves admits
 entered-from n m M p lp [] = sym (or-false (entered (stageOf m p)))
 entered-from n m M p lp (c ∷ cs) =
     entered-from n (after m c) (meets-after n m M c) p lp cs

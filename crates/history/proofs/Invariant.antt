@@ -27,6 +27,7 @@ use Rattle.rules.proofs.Laws.Refused.{refused-hands-back}
 use Rattle.history.specs.Runs.{Call, enters, steps, crashes, answer, after, from}
 use Rattle.history.proofs.Found.{reading-keeps, reading-adds, read-stands, size-stands}
 use Rattle.history.proofs.Moves.{nobody-yet, meets-after, Stepped, writing, finding, ending, falling, stepped}
+use Rattle.world.specs.Calls.{leaves}
 
 pub record MissedNothing (n row x q : ℕ) (s : Stage) : Type 0 where
   pub low : 1 ≤ q
@@ -308,7 +309,7 @@ inv-of : (m m′ : Machine) → Inv m → Meets (m .n) m′ → ((x : ℕ) → 1
 inv-of m m′ I M full =
     record { meets = subst (λ n. Meets n m′) (sym (M .size)) M; full = λ x lx hx. full x lx (subst (λ n. x ≤ n) (M .size) hx) }
 
-inv-after : (m : Machine) → Inv m → (c : Call) → Inv (after m c)
+pub inv-after : (m : Machine) → Inv m → (c : Call) → Inv (after m c)
 inv-after m I (enters p v) = go (accepted (answer m (enters p v))) refl
   where
     go : (b : Bool) → accepted (answer m (enters p v)) ≡ b → Inv (after m (enters p v))
@@ -348,7 +349,7 @@ unfolding count
 count-none zero = refl
 count-none (suc k) = let e : count (λ _. false) k ≡ 0 = count-none k in omega arith
 
-inv-fresh : (n : ℕ) → 1 ≤ n → n ≤ 32 → Inv (fresh n)
+pub inv-fresh : (n : ℕ) → 1 ≤ n → n ≤ 32 → Inv (fresh n)
 inv-fresh n lo hi = record { meets = every-state-meets .starts n lo hi; full = λ x lx hx some. absurd (none x lx hx some) }
   where
     M : Meets n (fresh n)
@@ -364,7 +365,7 @@ inv-fresh n lo hi = record { meets = every-state-meets .starts n lo hi; full = �
         omega (arith, never (fresh n) (M .shape) (λ p. ap (λ P. entered (P .stage)) (nobody-yet n p)) x lx hx)
 
 pub inv-from : (m : Machine) → Inv m → (cs : List Call) → Inv (from m cs)
-unfolding from
+unfolding leaves
 inv-from m I [] = I
 inv-from m I (c ∷ cs) = inv-from (after m c) (inv-after m I c) cs
 

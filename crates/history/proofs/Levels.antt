@@ -19,10 +19,11 @@ use Rattle.rules.proofs.Laws.Small.{not-both, and-first, and-second, both, or-t
 use Rattle.rules.proofs.Laws.Did.{what-calls-did}
 use Rattle.rules.proofs.Laws.Keeps.{every-state-meets}
 use Rattle.rules.proofs.Laws.Effects.{effects-of-calls}
-use Rattle.history.specs.Runs.{Call, after, from, runs, reachedFrom, reached, Reaches}
-use Rattle.history.specs.Theorems.{AtMostXReachX, ReachedIsReaches}
-use Rattle.history.proofs.Moves.{meets-after, every-state-shaped, Stepped, writing, finding, ending, falling, stepped, by-call}
+use Rattle.history.specs.Runs.{Call, after, from, runs, reached}
+use Rattle.history.specs.Theorems.{AtMostXReachX}
+use Rattle.history.proofs.Moves.{reachedFrom, meets-after, every-state-shaped, Stepped, writing, finding, ending, falling, stepped, by-call}
 use Rattle.history.proofs.Invariant.{Inv, atMost, level-most, inv-runs}
+use Rattle.world.specs.Calls.{ever, leaves}
 
 same : (x a b : ℕ) → a ≡ x → b ≡ x → a ≤ b
 same x a b e q = omega arith
@@ -67,7 +68,7 @@ sinks n m M p lp x t =
     le = leb-true _ x (and-second (entered (stageOf m p)) _ t)
 
 sinks-from : (n : ℕ) (m : Machine) → Meets n m → (p : ℕ) → 1 ≤ p → (x : ℕ) → atMost m x p ≡ true → (cs : List Call) → atMost (from m cs) x p ≡ true
-unfolding from
+unfolding leaves
 sinks-from n m M p lp x t [] = t
 sinks-from n m M p lp x t (c ∷ cs) = sinks-from n (after m c) (meets-after n m M c) p lp x (sinks n m M p lp x t c) cs
 
@@ -83,7 +84,7 @@ at-level s x lx t = low s x (go s (eqb-true (levelOf s) x t)) (omega (arith, eqb
 
 reached-sinks : (n : ℕ) (m : Machine) → Meets n m → (cs : List Call) (x p : ℕ) → 1 ≤ x → 1 ≤ p → reachedFrom m cs x p ≡ true
     → atMost (from m cs) x p ≡ true
-unfolding from reachedFrom
+unfolding leaves ever
 reached-sinks n m M [] x p lx lp t = at-level (stageOf m p) x lx t
 reached-sinks n m M (c ∷ cs) x p lx lp t =
     go (or-true (eqb (levelOf (stageOf m p)) x) (reachedFrom (after m c) cs x p) t) (reached-sinks n (after m c) (meets-after n m M c) cs x p lx lp)
@@ -102,30 +103,3 @@ at-most-x-reach-x n lo hi cs x lx hx =
     bound m I e f sub =
         let some : count (atMost m x) n ≤ x = subst (λ k. count (atMost m x) k ≤ x) e (level-most m I x (omega arith)) in
         omega (arith, count-mono f (atMost m x) n sub)
-
--- `reached` speaks of prefixes.
-prefix-reached : (m : Machine) (before then : List Call) (x p : ℕ) → levelOf (stageOf (from m before) p) ≡ x
-    → reachedFrom m (before ++ then) x p ≡ true
-unfolding from reachedFrom
-prefix-reached m [] [] x p e = eq-eqb _ x e
-prefix-reached m [] (c ∷ cs) x p e = or-left _ _ (eq-eqb (levelOf (stageOf m p)) x e)
-prefix-reached m (b ∷ bs) then x p e = or-right (eqb (levelOf (stageOf m p)) x) _ (prefix-reached (after m b) bs then x p e)
-
-reached-prefix : (m : Machine) (cs : List Call) (x p : ℕ) → reachedFrom m cs x p ≡ true → Reaches m cs x p
-unfolding from reachedFrom
-reached-prefix m [] x p t = record { before = []; then = []; whole = refl; there = eqb-true _ x t }
-reached-prefix m (c ∷ cs) x p t =
-    go (or-true (eqb (levelOf (stageOf m p)) x) (reachedFrom (after m c) cs x p) t) (reached-prefix (after m c) cs x p)
-  where
-    go : (eqb (levelOf (stageOf m p)) x ≡ true) ⊎ (reachedFrom (after m c) cs x p ≡ true)
-        → (reachedFrom (after m c) cs x p ≡ true → Reaches (after m c) cs x p) → Reaches m (c ∷ cs) x p
-    go (inl here) further = record { before = []; then = c ∷ cs; whole = refl; there = eqb-true _ x here }
-    go (inr there) further =
-        let r : Reaches (after m c) cs x p = further there in
-        record { before = c ∷ r .before; then = r .then; whole = ap (λ l. c ∷ l) (r .whole); there = r .there }
-
-pub reached-is-reaches : ReachedIsReaches
-reached-is-reaches n cs x p = (
-  reached-prefix (fresh n) cs x p,
-  λ r. subst (λ l. reachedFrom (fresh n) l x p ≡ true) (r .whole) (prefix-reached (fresh n) (r .before) (r .then) x p (r .there)),
-)

@@ -1,5 +1,4 @@
 -- Proofs of specs/Theorems, by topic.
-pub mod Appends
 pub mod Moves
 pub mod Counts
 pub mod Found
@@ -7,9 +6,11 @@ pub mod Figure
 pub mod Invariant
 pub mod Levels
 pub mod Answers
+pub mod World
 pub mod Given
 pub mod Snapshot
 pub mod Alone
+pub mod Demand
 pub mod Stays
 pub mod Looks
 pub mod Theorems

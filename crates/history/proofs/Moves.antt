@@ -23,8 +23,19 @@ use Rattle.rules.proofs.Laws.Did.{what-calls-did}
 use Rattle.rules.proofs.Laws.Refused.{refused-hands-back}
 use Rattle.rules.proofs.Laws.Keeps.{every-state-meets, held-register}
 use Rattle.rules.proofs.Laws.Effects.{in-range, effects-of-calls}
-use Rattle.history.specs.Runs.{Call, enters, steps, crashes, answer, after, from, acceptedStepOf, gives}
+use Rattle.history.specs.Runs.{Call, enters, steps, crashes, answer, after, machineTaker, from, acceptedStepOf, atLevel}
 use Rattle.history.specs.Theorems.{EveryStateShaped}
+use Rattle.world.specs.Calls.{leaves, ever, givesBy, deposits}
+
+-- what a call gives to p; who has reached a level; what was deposited, from any machine on
+abbrev pub gives : Machine → Call → ℕ → ℕ → ℕ
+gives m c p other = givesBy p c (accepted (answer m c)) other
+
+abbrev pub reachedFrom : Machine → List Call → ℕ → ℕ → Bool
+reachedFrom m cs x p = ever machineTaker (atLevel x p) m cs
+
+abbrev pub givenFrom : Machine → List Call → ℕ → ℕ
+givenFrom m cs p = deposits machineTaker m cs p
 
 pub meets-after : (n : ℕ) (m : Machine) → Meets n m → (c : Call) → Meets n (after m c)
 meets-after n m M (enters p v) = every-state-meets .enter n m M p v
@@ -32,7 +43,7 @@ meets-after n m M (steps p) = every-state-meets .step n m M p
 meets-after n m M (crashes p) = every-state-meets .crash n m M p
 
 pub meets-from : (n : ℕ) (m : Machine) → Meets n m → (cs : List Call) → Meets n (from m cs)
-unfolding from
+unfolding leaves
 meets-from n m M [] = M
 meets-from n m M (c ∷ cs) = meets-from n (after m c) (meets-after n m M c) cs
 
@@ -40,7 +51,7 @@ pub every-state-shaped : EveryStateShaped
 every-state-shaped n lo hi cs = meets-from n _ (every-state-meets .starts n lo hi) cs
 
 -- nobody has entered a fresh machine
-blank {ℓ} : {A : Type ℓ} (k i : ℕ) (a : A) → getD (replicate k a) i a ≡ a
+pub blank {ℓ} : {A : Type ℓ} (k i : ℕ) (a : A) → getD (replicate k a) i a ≡ a
 blank zero i a = refl
 blank (suc k) zero a = refl
 blank (suc k) (suc i) a = blank k i a
@@ -81,7 +92,7 @@ stepped m h p a = go (what-calls-did .step m p a .1)
 -- What a call does to process p: it stays as it was, and the call is neither an accepted step nor an accepted enter of p; or the call is an
 -- accepted enter, step or crash of p.
 pub by-call : (m : Machine) → Held m → (p : ℕ) → 1 ≤ p → (Q : Call → Type 0)
-    → ((c : Call) → processOf (after m c) p ≡ processOf m p → acceptedStepOf p c (answer m c) ≡ false → ((o : ℕ) → gives m c p o ≡ o) → Q c)
+    → ((c : Call) → processOf (after m c) p ≡ processOf m p → acceptedStepOf p c (accepted (answer m c)) ≡ false → ((o : ℕ) → gives m c p o ≡ o) → Q c)
     → ((v : ℕ) → accepted (enterOf m p v) ≡ true → Q (enters p v)) → (accepted (stepOf m p) ≡ true → Q (steps p))
     → (accepted (crashOf m p) ≡ true → Q (crashes p)) → (c : Call) → Q c
 by-call m h p lp Q same enter step crash (enters q v) = go (accepted (enterOf m q v)) refl (equal-or-not q p)

@@ -19,13 +19,15 @@ use Rattle.rules.proofs.Laws.Small.{not-both, equal-or-not}
 use Rattle.rules.proofs.Laws.Did.{what-calls-did}
 use Rattle.rules.proofs.Laws.Refused.{refused-hands-back}
 use Rattle.rules.proofs.Laws.Effects.{effects-of-calls}
-use Rattle.history.specs.Runs.{Call, enters, steps, crashes, after, from, runs}
-use Rattle.history.specs.Figure.{empty, holds, register}
+use Rattle.history.specs.Runs.{Call, enters, steps, crashes, after, machineTaker, from, runs}
+use Rattle.world.specs.Programs.{empty, holds}
+use Rattle.history.specs.AsWorld.{register}
 use Rattle.history.specs.Views.{Has}
 use Rattle.history.specs.Theorems.{CrashedStays, WrittenStays, SameList, FinishedStays}
-use Rattle.history.proofs.Appends.{from-append}
+use Rattle.world.proofs.Laws.{leaves-append}
 use Rattle.history.proofs.Moves.{meets-after, meets-from, every-state-shaped, Stepped, writing, finding, ending, falling, stepped, by-call}
 use Rattle.history.proofs.Figure.{register-stays, enter-is-start, crash-is-end}
+use Rattle.world.specs.Calls.{leaves}
 
 -- Who enters is absent, and who steps or crashes runs. So no call changes the record of a process that does neither.
 module _ (test : Stage → Bool) (absent : test Absent ≡ false) (running : (x k f : ℕ) → test (Running x k f) ≡ false) where
@@ -46,7 +48,7 @@ module _ (test : Stage → Bool) (absent : test Absent ≡ false) (running : (x 
 
   still-from : (n : ℕ) (m : Machine) → Meets n m → (p : ℕ) → 1 ≤ p → test (stageOf m p) ≡ true → (cs : List Call)
       → processOf (from m cs) p ≡ processOf m p
-  unfolding from
+  unfolding leaves
   still-from n m M p lp t [] = refl
   still-from n m M p lp t (c ∷ cs) =
       let e = holds-still n m M p lp t c in
@@ -54,7 +56,7 @@ module _ (test : Stage → Bool) (absent : test Absent ≡ false) (running : (x 
 
 pub crashed-stays : CrashedStays
 crashed-stays n lo hi cs p lp t ds =
-    ap (λ m. processOf m p) (from-append (fresh n) cs ds)
+    ap (λ m. processOf m p) (leaves-append machineTaker (fresh n) cs ds)
     ∙ still-from crashed refl (λ x k f. refl) n (runs n cs) (every-state-shaped n lo hi cs) p lp t ds
 
 pub finished-from : (n : ℕ) (m : Machine) → Meets n m → (p : ℕ) → 1 ≤ p → finished (stageOf m p) ≡ true → (cs : List Call)
@@ -108,14 +110,14 @@ module _ (n : ℕ) (m : Machine) (M : Meets n m) (x i v : ℕ) (lx : 1 ≤ x) (h
 
 written-from : (n : ℕ) (m : Machine) → Meets n m → (x i v : ℕ) → 1 ≤ x → x ≤ 32 → 1 ≤ i → i ≤ 32 → register m x i ≡ holds v → (cs : List Call)
     → register (from m cs) x i ≡ holds v
-unfolding from
+unfolding leaves
 written-from n m M x i v lx hx li hi t [] = t
 written-from n m M x i v lx hx li hi t (c ∷ cs) =
     written-from n (after m c) (meets-after n m M c) x i v lx hx li hi (holds-on n m M x i v lx hx li hi t c) cs
 
 pub written-stays : WrittenStays
 written-stays n lo hi cs x i v lx hx li hi′ t ds =
-    ap (λ m. register m x i) (from-append (fresh n) cs ds)
+    ap (λ m. register m x i) (leaves-append machineTaker (fresh n) cs ds)
     ∙ written-from n (runs n cs) (every-state-shaped n lo hi cs) x i v lx (omega arith) li (omega arith) t ds
 
 -- A list once told: its pairs are in registers that stay.
@@ -163,4 +165,4 @@ module _ (n : ℕ) (m : Machine) (M : Meets n m) (p : ℕ) (h : Has m p) (cs : L
 
 pub finished-stays : FinishedStays
 finished-stays n lo hi cs p h ds =
-    subst (λ m. SameList (runs n cs) m p) (sym (from-append (fresh n) cs ds)) (same-list n (runs n cs) (every-state-shaped n lo hi cs) p h ds)
+    subst (λ m. SameList (runs n cs) m p) (sym (leaves-append machineTaker (fresh n) cs ds)) (same-list n (runs n cs) (every-state-shaped n lo hi cs) p h ds)

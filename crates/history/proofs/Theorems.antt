@@ -1,29 +1,28 @@
 -- What specs/Theorems states, each under its own name.
-use Rattle.history.specs.Theorems.{StepIsFirstAccess, EnterIsStart, CrashIsEnd, ViewIsReturned, LookShowsView, EveryStateShaped, NeverOneNorSeven}
-use Rattle.history.specs.Theorems.{AloneNeverOneNorSeven, AcceptedWhileAccesses, AtMostXReachX}
-use Rattle.history.specs.Theorems.{ReachedIsReaches, ThreeProperties, ThreePropertiesOfSets, ViewsAreGiven, ExactSteps, EnoughSteps}
+use Rattle.history.specs.Theorems.{CallIsFigures, EveryRunIsFigure, ViewIsReturned, LookShowsView, EveryStateShaped, NeverOneNorSeven}
+use Rattle.history.specs.Theorems.{AloneNeverOneNorSeven, AtMostXReachX, ReachedIsBegun}
+use Rattle.history.specs.Theorems.{ThreeProperties, ThreePropertiesOfSets, ViewsAreGiven, ExactSteps, EnoughSteps}
 use Rattle.history.specs.Theorems.{AccessesCounted, WaitFree, CrashedStays, FinishedStays, WrittenStays}
-use Rattle.history.specs.Theorems.{AloneFinishes, OverAppend, CountsOfRuns, EnteredByCall}
-use Rattle.history.proofs.Appends
+use Rattle.history.specs.Theorems.{AloneFinishes, CountsOfRuns, EnteredByCall}
+use Rattle.history.specs.Demand.{EveryRunDemandThree}
 use Rattle.history.proofs.Moves
 use Rattle.history.proofs.Counts
 use Rattle.history.proofs.Figure
+use Rattle.history.proofs.World
 use Rattle.history.proofs.Levels
 use Rattle.history.proofs.Answers
 use Rattle.history.proofs.Snapshot
 use Rattle.history.proofs.Alone
+use Rattle.history.proofs.Demand
 use Rattle.history.proofs.Stays
 use Rattle.history.proofs.Looks
 use Rattle.history.proofs.Given
 
-pub step-is-first-access : StepIsFirstAccess
-step-is-first-access = Figure.step-is-first-access
+pub call-is-figures : CallIsFigures
+call-is-figures = World.call-is-figures
 
-pub enter-is-start : EnterIsStart
-enter-is-start = Figure.enter-is-start
-
-pub crash-is-end : CrashIsEnd
-crash-is-end = Figure.crash-is-end
+pub every-run-is-figure : EveryRunIsFigure
+every-run-is-figure = World.every-run-is-figure
 
 pub view-is-returned : ViewIsReturned
 view-is-returned = Figure.view-is-returned
@@ -40,14 +39,14 @@ never-one-nor-seven = Answers.never-one-nor-seven
 pub alone-never-one-nor-seven : AloneNeverOneNorSeven
 alone-never-one-nor-seven = Alone.alone-never-one-nor-seven
 
-pub accepted-while-accesses : AcceptedWhileAccesses
-accepted-while-accesses = Answers.accepted-while-accesses
-
 pub at-most-x-reach-x : AtMostXReachX
 at-most-x-reach-x = Levels.at-most-x-reach-x
 
-pub reached-is-reaches : ReachedIsReaches
-reached-is-reaches = Levels.reached-is-reaches
+pub reached-is-begun : ReachedIsBegun
+reached-is-begun = Demand.reached-is-begun
+
+pub every-run-demand-three : EveryRunDemandThree
+every-run-demand-three = Demand.every-run-demand-three
 
 pub three-properties : ThreeProperties
 three-properties = Snapshot.three-properties
@@ -81,9 +80,6 @@ written-stays = Stays.written-stays
 
 pub alone-finishes : AloneFinishes
 alone-finishes = Alone.alone-finishes
-
-pub over-append : OverAppend
-over-append = record { state = Appends.from-append; counts = Appends.tally-append }
 
 pub counts-of-runs : CountsOfRuns
 counts-of-runs = Counts.counts-of-runs

@@ -3,8 +3,10 @@ use mathlib.Core.Path.{_≡_}
 use mathlib.Core.Bool.{true, false}
 use mathlib.Core.List.{List, [], _∷_}
 use Prim.Native.Nat.{ℕ}
+use Rattle.world.specs.Programs.{returns}
 use Rattle.history.specs.Runs.{Call, enters, steps, runs, acceptedSteps, allSteps, acceptedCalls, refusedCalls, reached, given, hasEntered}
-use Rattle.history.specs.Figure.{Pair, returns, programOf}
+use Rattle.history.specs.Figure.{Pair}
+use Rattle.history.specs.AsWorld.{programOf}
 
 -- "`EN` 1 value 7; `EN` 2 value 9; `ST` 1 three times; `ST` 2 three times; `ST` 1 three times; `ST` 2"
 abbrev pub printed : List Call

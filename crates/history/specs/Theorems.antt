@@ -14,43 +14,24 @@ use Rattle.rules.specs.State.{processOf, stageOf, valueOf, entered, finished, c
 use Rattle.rules.specs.Shape.{Held, Shaped}
 use Rattle.rules.specs.Calls.{numberOf, accepted, fresh, enterOf, stepOf, crashOf, finishOf, lookOf}
 use Rattle.rules.specs.Statements.{Meets}
-use Rattle.history.specs.Runs.{Call, steps, answer, from, runs, tally, acceptedSteps, allSteps, acceptedCalls, refusedCalls, reached}
-use Rattle.history.specs.Runs.{Reaches, given, hasEntered}
-use Rattle.history.specs.Figure.{holds, Pair, returns, halted, update-snapshot, accesses, registersAfter, remains, register, programOf}
+use Rattle.world.specs.Programs.{holds, returns}
+use Rattle.world.specs.World.{takes, does}
+use Rattle.history.specs.Runs.{Call, steps, answer, after, runs, acceptedSteps, allSteps, reached, given, hasEntered}
+use Rattle.history.specs.Figure.{Pair, figure}
+use Rattle.history.specs.Demand.{figureRuns, begun}
+use Rattle.history.specs.AsWorld.{register, programOf, worldOf}
 use Rattle.history.specs.Views.{Has, View}
 
 -- Demand 2: "An accepted step makes one register access and leaves the machine as the published recursive algorithm does." Of any well shaped
--- state that the declared types hold, whether a run leaves it or not; m′ is what the step of process p leaves of m.
-pub record FirstAccess (m m′ : Machine) (p : ℕ) : Type 0 where
-  pub size : m′ .n ≡ m .n
-  -- the program of p begins with an access, which is made on the registers as they stand,
-  pub one : accesses (programOf m p) ≡ true
-  pub registers : (y j : ℕ) → 1 ≤ y → y ≤ 32 → 1 ≤ j → j ≤ 32 → register m′ y j ≡ registersAfter (register m) (programOf m p) y j
-  -- and what remains of the program is left to p;
-  pub rest : programOf m′ p ≡ remains (register m) (programOf m p)
-  pub value : valueOf m′ p ≡ valueOf m p
-  -- the others are as they were, and so is what they have yet to do
-  pub others : (q : ℕ) → 1 ≤ q → q ≢ p → processOf m′ q ≡ processOf m q
-  pub programs : (q : ℕ) → 1 ≤ q → q ≤ 32 → q ≢ p → programOf m′ q ≡ programOf m q
+-- state that the declared types hold, whether a run leaves it or not: the world of Fig. 8.16 takes a call that the machine accepts, and what the
+-- machine is after it is what the call does to that world. So a step makes the first access of what the process has yet to do, on the registers as
+-- they stand; an enter puts the process at line 1; a crashed process does nothing more; and all else stays.
+pub record FiguresCall (m : Machine) (c : Call) : Type 0 where
+  pub takes : takes (figure (m .n)) (worldOf m) c ≡ true
+  pub does : worldOf (after m c) ≡ does (figure (m .n)) (worldOf m) c
 
-abbrev pub StepIsFirstAccess : Type 0
-StepIsFirstAccess = (m : Machine) → Held m → (p : ℕ) → accepted (stepOf m p) ≡ true → FirstAccess m (stepOf m p .machine) p
-
--- An enter and a crash make no access.
-pub record NoAccess (m m′ : Machine) (p : ℕ) : Type 0 where
-  pub size : m′ .n ≡ m .n
-  pub registers : (y j : ℕ) → register m′ y j ≡ register m y j
-  pub others : (q : ℕ) → 1 ≤ q → q ≢ p → processOf m′ q ≡ processOf m q
-  pub programs : (q : ℕ) → 1 ≤ q → q ≢ p → programOf m′ q ≡ programOf m q
-
--- An accepted enter puts the process at the start of the figure, line 1; a crashed one does nothing more.
-abbrev pub EnterIsStart : Type 0
-EnterIsStart = (m : Machine) → Held m → (p v : ℕ) → accepted (enterOf m p v) ≡ true
-    → (programOf (enterOf m p v .machine) p ≡ update-snapshot (m .n) p v) × NoAccess m (enterOf m p v .machine) p
-
-abbrev pub CrashIsEnd : Type 0
-CrashIsEnd = (m : Machine) → Held m → (p : ℕ) → accepted (crashOf m p) ≡ true
-    → (programOf (crashOf m p .machine) p ≡ halted) × NoAccess m (crashOf m p .machine) p
+abbrev pub CallIsFigures : Type 0
+CallIsFigures = (m : Machine) → Held m → (c : Call) → accepted (answer m c) ≡ true → FiguresCall m c
 
 -- The view of a finished process is the list of pairs that the figure returns.
 pub record Returned (m : Machine) (p : ℕ) : Type 0 where
@@ -71,6 +52,15 @@ LookShowsView = (m : Machine) → Shaped m → (i : ℕ) → Has m i → (j v : 
 abbrev pub OfEveryRun : (ℕ → List Call → Type 0) → Type 0
 OfEveryRun P = (n : ℕ) → 1 ≤ n → n ≤ 32 → (cs : List Call) → P n cs
 
+-- A run of the machine is a run of Fig. 8.16: after every list of calls the machine is the figure's world after the same calls, and both accept the
+-- same calls. So the answers of a machine are those of the published algorithm over whole runs, refused calls among them.
+pub record IsFigure (n : ℕ) (cs : List Call) : Type 0 where
+  pub world : worldOf (runs n cs) ≡ figureRuns n cs
+  pub accepts : (c : Call) → accepted (answer (runs n cs) c) ≡ takes (figure n) (figureRuns n cs) c
+
+abbrev pub EveryRunIsFigure : Type 0
+EveryRunIsFigure = OfEveryRun IsFigure
+
 -- Document 01: "Every state that a run leaves meets it."
 abbrev pub EveryStateShaped : Type 0
 EveryStateShaped = OfEveryRun λ n cs. Meets n (runs n cs)
@@ -87,17 +77,13 @@ NeverOneNorSeven = OfEveryRun NeitherOneNorSeven
 abbrev pub AloneNeverOneNorSeven : Type 0
 AloneNeverOneNorSeven = OfEveryRun λ n cs. (p : ℕ) → (numberOf (finishOf (runs n cs) p .answer) ≢ 1) × (numberOf (finishOf (runs n cs) p .answer) ≢ 7)
 
--- In a run a step is accepted exactly while the figure has an access left for the process.
-abbrev pub AcceptedWhileAccesses : Type 0
-AcceptedWhileAccesses = OfEveryRun λ n cs. (p : ℕ) → 1 ≤ p → p ≤ n → accepted (stepOf (runs n cs) p) ≡ accesses (programOf (runs n cs) p)
-
 -- "For each x from 1 to n, at most x tasks ever reach level x."
 abbrev pub AtMostXReachX : Type 0
 AtMostXReachX = OfEveryRun λ n cs. (x : ℕ) → 1 ≤ x → x ≤ n → count (reached n cs x) n ≤ x
 
--- `reached` is what it says: after some prefix of the list the process is at that level.
-abbrev pub ReachedIsReaches : Type 0
-ReachedIsReaches = (n : ℕ) (cs : List Call) (x p : ℕ) → (reached n cs x p ≡ true) ↔ Reaches (fresh n) cs x p
+-- To reach a level is to have begun the figure's rec_update_snapshot there.
+abbrev pub ReachedIsBegun : Type 0
+ReachedIsBegun = OfEveryRun λ n cs. (x p : ℕ) → 1 ≤ x → 1 ≤ p → p ≤ n → reached n cs x p ≡ begun n cs x p
 
 -- "The lists of all finished tasks obey the three properties": self-inclusion, containment, simultaneity.
 abbrev pub ThreeProperties : Type 0
@@ -171,23 +157,14 @@ abbrev pub AloneFinishes : Type 0
 AloneFinishes = OfEveryRun λ n cs. (p : ℕ) → 1 ≤ p → p ≤ n → entered (stageOf (runs n cs) p) ≡ true → crashed (stageOf (runs n cs) p) ≡ false
     → finished (stageOf (runs n cs) p) ≡ false → FinishesAlone n cs p
 
--- One list after another: the state that they leave, and what is counted of them.
-pub record OverAppend : Type 0 where
-  pub state : (m : Machine) (cs ds : List Call) → from m (cs ++ ds) ≡ from (from m cs) ds
-  pub counts : (test : Call → Called → Bool) (m : Machine) (cs ds : List Call) → tally test m (cs ++ ds) ≡ tally test m cs + tally test (from m cs) ds
-
 -- f 1 + .. + f k
 unfoldable pub total : (ℕ → ℕ) → ℕ → ℕ
 total f zero = 0
 total f (suc k) = f (suc k) + total f k
 
--- A call is accepted or refused; the accepted steps are those of the processes 1 to n.
-pub record CountsAgree (n : ℕ) (cs : List Call) : Type 0 where
-  pub calls : acceptedCalls n cs + refusedCalls n cs ≡ length cs
-  pub steps : allSteps n cs ≡ total (acceptedSteps n cs) n
-
+-- The accepted steps are those of the processes 1 to n.
 abbrev pub CountsOfRuns : Type 0
-CountsOfRuns = OfEveryRun CountsAgree
+CountsOfRuns = OfEveryRun λ n cs. allSteps n cs ≡ total (acceptedSteps n cs) n
 
 -- A process has entered, whatever became of it since, exactly if an enter of it is among the calls and was accepted.
 abbrev pub EnteredByCall : Type 0

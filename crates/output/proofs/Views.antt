@@ -14,7 +14,9 @@ use Rattle.rules.specs.State.{stageOf, valueOf, rowOf, cellOf, finished, foundO
 use Rattle.rules.specs.Shape.{Shaped, Ended, ShapedStage}
 use Rattle.rules.specs.Calls.{rowValues, looked}
 use Rattle.rules.proofs.Laws.Looks.{row-values-at}
-use Rattle.history.specs.Figure.{Pair, empty, holds, pairs, readings, returns, accesses, programAt}
+use Rattle.world.specs.Programs.{empty, holds, returns, accesses}
+use Rattle.history.specs.Figure.{Pair, Code, pairs}
+use Rattle.history.specs.AsWorld.{readings, programAt}
 use Rattle.history.proofs.Found.{row-upto}
 use Rattle.history.proofs.Figure.{pairs-next, program-goes}
 use Rattle.history.proofs.Theorems.{view-is-returned}
@@ -133,7 +135,7 @@ no-dash (q ∷ qs) h e =
     let first = ap (λ (l : List ℕ). getD l 0 0) (sym (append-assoc (decimal (q .process)) value rest) ∙ e) in
     omega (arith, first-digit (q .process) (value ++ rest))
 
-returns-one : (a b : List Pair) → returns a ≡ returns b → a ≡ b
+returns-one : (a b : List Pair) → _≡_ {A = Code} (returns a) (returns b) → a ≡ b
 returns-one a b e = cc
 
 module _ (m : Machine) (sh : Shaped m) (i : ℕ) (low : 1 ≤ i) (high : i ≤ m .n) where

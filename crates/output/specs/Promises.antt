@@ -10,7 +10,9 @@ use Rattle.rules.specs.declared.Machine.{Machine}
 use Rattle.rules.specs.State.{stageOf, finished}
 use Rattle.rules.specs.Calls.{looked}
 use Rattle.history.specs.Runs.{hasEntered}
-use Rattle.history.specs.Figure.{Pair, returns, programOf}
+use Rattle.world.specs.Programs.{returns}
+use Rattle.history.specs.Figure.{Pair}
+use Rattle.history.specs.AsWorld.{programOf}
 use Rattle.formats.specs.declared.FileAnswer.{FileAnswer}
 use Rattle.formats.specs.declared.Header.{Header}
 use Rattle.formats.specs.Numbers.{numberOf}

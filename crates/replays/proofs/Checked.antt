@@ -15,7 +15,8 @@ use Rattle.rules.specs.State.{stageOf, valueOf, foundOf}
 use Rattle.rules.specs.Shape.{Words, Shaped}
 use Rattle.rules.specs.Calls.{accepted, fresh, enterOf, viewOf}
 use Rattle.rules.proofs.Laws.Shape.{record-shaped}
-use Rattle.history.specs.Runs.{Call, enters, steps, crashes, after, runs, givenFrom, given}
+use Rattle.history.specs.Runs.{Call, enters, steps, crashes, after, runs, given}
+use Rattle.history.proofs.Moves.{givenFrom}
 use Rattle.history.specs.Views.{Has, View}
 use Rattle.history.proofs.Given.{value-given}
 use Rattle.formats.specs.declared.ViewsRead.{ViewsRead}
@@ -39,6 +40,7 @@ use Rattle.replays.proofs.Views.{seen}
 use Rattle.replays.proofs.RoundTrip.{view-found, owner-known, owner-finished, owner-below, named-below, value-named, written-reads-back}
 use Rattle.replays.proofs.FileOfCalls.{file-calls}
 use Rattle.replays.proofs.Promises.{few-processes, demand-three, every-file-counted, every-file-demand-three}
+use Rattle.world.specs.Calls.{deposits}
 
 -- The views of a machine and those of its file are the same pairs.
 module _ (m : Machine) (S : Shaped m) where
@@ -109,7 +111,7 @@ given-if true v o p q = p
 given-if false v o p q = q
 
 given-below : (m : Machine) (cs : List Call) (p : ℕ) → FileCalls cs → givenFrom m cs p < 2 ^ 32
-unfolding givenFrom
+unfolding deposits
 given-below m [] p w = omega arith
 given-below m (enters q v ∷ cs) p w =
     given-if (eqb q p && accepted (enterOf m q v)) v (givenFrom (after m (enters q v)) cs p) (w .0 .1) (given-below (after m (enters q v)) cs p (w .1))

@@ -27,6 +27,7 @@ use Rattle.replays.specs.OrderFile.{orderBytes}
 use Rattle.replays.specs.Writes.{viewsOf, bytesOf, writeOf, bufferOf}
 use Rattle.replays.specs.Examples.{RunLine, printedFile, Printed, Small, OrdersRefused, HeaderRefused, Spelled, FilesWritten, WriteLine, WriterAnswers}
 use Rattle.replays.proofs.Writes.{every-write-numbered}
+use Rattle.world.specs.Calls.{counts, leaves}
 
 -- what the printed file holds, with a budget of 12 or more
 holds-printed : ordersFrom 65535 printedFile 3 ≡ record { answer = Whole; place = 47; calls = printed }
@@ -61,7 +62,7 @@ printed-example =
     }
 
 pub small-examples : Small
-unfolding replayOf headerOf ordersFrom orderAt markAt markOf tally from
+unfolding replayOf headerOf ordersFrom orderAt markAt markOf counts leaves
 small-examples =
     record {
       spent-none = record { number-is = refl; place-is = refl; taken-is = refl; accesses-is = refl; refused-is = refl };
@@ -86,11 +87,11 @@ small-examples =
 
 -- process 3 of 2 is refused
 one-refused : tally isRefused (fresh 2) (steps 3 ∷ []) ≡ 1
-unfolding tally
+unfolding counts
 one-refused = ap (λ (c : Called). tick (not (accepted c)) + 0) (step-bare 2 (fresh 2) (meets-fresh 2 (lit≤ tt) (lit≤ tt)) 3)
 
 no-access : tally acceptedStep (fresh 2) (steps 3 ∷ []) ≡ 0
-unfolding tally
+unfolding counts
 no-access = ap (λ (c : Called). tick (accepted c) + 0) (step-bare 2 (fresh 2) (meets-fresh 2 (lit≤ tt) (lit≤ tt)) 3)
 
 pub refused-examples : OrdersRefused

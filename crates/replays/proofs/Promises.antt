@@ -18,9 +18,10 @@ use Rattle.replays.specs.Replays.{noReplay, replayBy, replayOf, callsBy,
 use Rattle.replays.specs.Promises.{Counted, EveryFileCounted, EveryFileHolds, NoneTaken, EveryRefusedHeader}
 use Rattle.replays.specs.Promises.{DemandThree, EveryFileDemandThree, EveryFileAccesses}
 use Rattle.replays.proofs.WholeFile.{header-whole, whole-header, held-calls, few-calls}
+use Rattle.world.specs.Calls.{counts, leaves}
 
 counted-by : (s : List ℕ) (budget : ℕ) (h : Header) → headerOf s ≡ h → Counted (processesBy h) (callsBy s budget h) budget (replayBy s budget h)
-unfolding tally from
+unfolding counts leaves
 counted-by s budget (Header.Fault a) e = record { most = omega arith; taken = refl; accesses = refl; refused = refl; state = refl }
 counted-by s budget (Header.Of n) e = record { most = few-calls s budget n e; taken = refl; accesses = refl; refused = refl; state = refl }
 
@@ -74,4 +75,4 @@ every-file-demand-three s budget =
 pub every-file-accesses : EveryFileAccesses
 every-file-accesses s budget =
     let f = few-processes s (headerOf s) refl in
-    every-file-counted s budget .accesses ∙ counts-of-runs (processesOf s) (f .0) (f .1) (callsOf s budget) .steps
+    every-file-counted s budget .accesses ∙ counts-of-runs (processesOf s) (f .0) (f .1) (callsOf s budget)

@@ -20,6 +20,7 @@ use Rattle.replays.specs.declared.Counts.{Counts}
 use Rattle.replays.specs.declared.Replayed.{Replayed}
 use Rattle.replays.specs.Replays.{Orders, ended, then, orderThen, ordersFrom, replayed}
 use Rattle.replays.specs.Coded.Turns.{none, took, ends, resumed}
+use Rattle.world.specs.Calls.{counts, leaves}
 
 -- The counts of one order more.
 step-count : (s b : Bool) (x y : ℕ) → x + (tick (s && b) + y) ≡ cond b (x + tick s) x + y
@@ -39,7 +40,7 @@ alike : (a : FileAnswer) (p : ℕ) (m : Machine) {t t′ x x′ r r′ : ℕ} �
 alike a p m e f g = λ i. record { answer = a; place = p; taken = e i; accesses = f i; refused = g i; machine = m }
 
 pub resumed-took : (r : Counts) (m : Machine) (c : Call) (o : Orders) → resumed r m (then c o) ≡ resumed (took r m c) (answer m c .machine) o
-unfolding tally from
+unfolding counts leaves
 resumed-took r m c o =
     let a = answer m c in
     let one : r .taken + suc (length (o .calls)) ≡ r .taken + 1 + length (o .calls) = omega arith in
@@ -48,7 +49,7 @@ resumed-took r m c o =
     (refused-count (accepted a) (r .refused) (tally isRefused (a .machine) (o .calls)))
 
 pub resumed-ended : (r : Counts) (m : Machine) (a : FileAnswer) (at : ℕ) → ends a at r m ≡ resumed r m (ended a at)
-unfolding tally from
+unfolding counts leaves
 resumed-ended r m a at = alike a at m (omega arith) (omega arith) (omega arith)
 
 pub resumed-none : (n : ℕ) (o : Orders) → resumed none (fresh n) o ≡ replayed n o
@@ -111,9 +112,9 @@ ticked : (b : Bool) → tick b ≤ 1
 ticked true = omega arith
 ticked false = omega arith
 
-counts : (b : Bool) (k x t : ℕ) → k ≤ 1 → x ≤ t → cond b (x + k) x ≤ t + 1
-counts true k x t h l = omega arith
-counts false k x t h l = omega arith
+count-fits : (b : Bool) (k x t : ℕ) → k ≤ 1 → x ≤ t → cond b (x + k) x ≤ t + 1
+count-fits true k x t h l = omega arith
+count-fits false k x t h l = omega arith
 
 refusals : (b : Bool) (x t : ℕ) → x ≤ t → cond b x (x + 1) ≤ t + 1
 refusals true x t l = omega arith
@@ -165,7 +166,7 @@ module _ (s : List ℕ) (n budget : ℕ) (r : Counts) (m : Machine) (at : ℕ) (
         record {
           inside = whole-order s at o (g .inside) e;
           taken = omega arith;
-          accesses = counts (accepted (answer m c)) (tick (isStep c)) (r .accesses) (r .taken) (ticked (isStep c)) (g .accesses);
+          accesses = count-fits (accepted (answer m c)) (tick (isStep c)) (r .accesses) (r .taken) (ticked (isStep c)) (g .accesses);
           refused = refusals (accepted (answer m c)) (r .refused) (r .taken) (g .refused);
           left = sym (resumed-took r m c (ordersFrom (budget - (r .taken + 1)) s (at + width o))) ∙ ap (resumed r m) (sym (turn o e ∙ f)) ∙ g .left;
         }

@@ -1,10 +1,10 @@
 -- The example of a world, computed.
 use mathlib.Core.Path.{refl}
-use Rattle.world.specs.Calls.{leaves, counts, deposits}
+use Rattle.world.specs.Calls.{leaves, counts, ever, deposits, admits}
 use Rattle.world.specs.Examples.{Computed}
 
 pub computed : Computed
-unfolding leaves counts deposits
+unfolding leaves counts ever deposits admits
 computed =
     record {
       one-holds = refl;
@@ -14,9 +14,17 @@ computed =
       one-halts = refl;
       one-stepped = refl;
       two-stepped = refl;
+      stepped = refl;
+      accepted = refl;
+      two-goes = refl;
+      two-rests = refl;
+      three-rests = refl;
       refused = refl;
+      two-deposits = refl;
       one-deposits = refl;
       nobody-deposits = refl;
+      two-admitted = refl;
+      three-admitted = refl;
       has-entered = refl;
       has-not-entered = refl;
     }

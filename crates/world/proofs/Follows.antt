@@ -1,10 +1,10 @@
 -- One taker of calls follows another: a map of states that keeps acceptance and goes along with each call carries what is said of lists of calls.
 use mathlib.Core.Path.{_≡_, refl, sym, ap, ap₂, _∙_}
-use mathlib.Core.Bool.{Bool, _||_}
+use mathlib.Core.Bool.{Bool, _&&_, _||_}
 use mathlib.Core.List.{List, [], _∷_}
 use Prim.Native.Nat.{ℕ, _+_}
 use Rattle.sets.specs.Sets.{tick}
-use Rattle.world.specs.Calls.{Call, Taker, leaves, counts, ever, givesBy, deposits}
+use Rattle.world.specs.Calls.{Call, Taker, leaves, counts, ever, givesBy, deposits, isEnterOf, admits}
 
 -- of states that meet I, which every call keeps
 pub record Follows {S T : Type 0} (t : Taker S) (u : Taker T) (map : S → T) (I : S → Type 0) : Type 0 where
@@ -44,3 +44,10 @@ module _ {S T : Type 0} (t : Taker S) (u : Taker T) (map : S → T) (I : S → T
   same-deposits s i (c ∷ cs) p =
       ap₂ (λ (b : Bool) (k : ℕ). givesBy p c b k) (f .accepts s i c)
       (same-deposits (t .after s c) (f .keeps s i c) cs p ∙ ap (λ (w : T). deposits u w cs p) (f .after s i c))
+
+  pub same-admits : (s : S) → I s → (cs : List Call) (p : ℕ) → admits t s cs p ≡ admits u (map s) cs p
+  unfolding admits
+  same-admits s i [] p = refl
+  same-admits s i (c ∷ cs) p =
+      ap₂ (λ (a b : Bool). (isEnterOf p c && a) || b) (f .accepts s i c)
+      (same-admits (t .after s c) (f .keeps s i c) cs p ∙ ap (λ (w : T). admits u w cs p) (f .after s i c))

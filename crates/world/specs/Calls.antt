@@ -71,3 +71,13 @@ givesBy p (crashes q) ok other = other
 unfoldable pub deposits : {S : Type 0} → Taker S → S → List Call → ℕ → ℕ
 deposits t s [] p = 0
 deposits t s (c ∷ cs) p = givesBy p c (t .accepts s c) (deposits t (t .after s c) cs p)
+
+-- an enter of process p is among the calls, and is accepted
+abbrev pub isEnterOf : ℕ → Call → Bool
+isEnterOf p (enters q v) = eqb q p
+isEnterOf p (steps q) = false
+isEnterOf p (crashes q) = false
+
+unfoldable pub admits : {S : Type 0} → Taker S → S → List Call → ℕ → Bool
+admits t s [] p = false
+admits t s (c ∷ cs) p = (isEnterOf p c && t .accepts s c) || admits t (t .after s c) cs p

@@ -4,8 +4,8 @@ use mathlib.Core.Bool.{Bool, true, false}
 use mathlib.Core.List.{List, [], _∷_}
 use Prim.Native.Nat.{ℕ, _-_}
 use lib.Dec.{eqb}
-use Rattle.world.specs.Programs.{Register, empty, holds, Program, writes, reads, returns, halted, _>>_, _>>=_}
-use Rattle.world.specs.Calls.{Call, enters, steps, crashes, leaves, counts, acceptedStepOf, isRefused, ever, deposits}
+use Rattle.world.specs.Programs.{Register, empty, holds, Program, writes, reads, returns, halted, accesses, _>>_, _>>=_}
+use Rattle.world.specs.Calls.{Call, enters, steps, crashes, leaves, counts, acceptedStepOf, acceptedStep, isAccepted, isRefused, ever, deposits, admits}
 use Rattle.world.specs.World.{Algorithm, World, start, worldTaker}
 
 abbrev pub exchange : ℕ → ℕ → Program ℕ Register
@@ -36,10 +36,20 @@ pub record Computed : Type 0 where
   -- one access a step: 1 has made its write alone, and 2 both
   pub one-stepped : counts (worldTaker two) (acceptedStepOf 1) (start two) calls ≡ 1
   pub two-stepped : counts (worldTaker two) (acceptedStepOf 2) (start two) calls ≡ 2
+  pub stepped : counts (worldTaker two) acceptedStep (start two) calls ≡ 3
+  pub accepted : counts (worldTaker two) isAccepted (start two) calls ≡ 6
+  -- 2 has had an access to make after some of the calls, though not after all; 3 never has
+  pub two-goes : ever (worldTaker two) (λ w. accesses (w .remains 2)) (start two) calls ≡ true
+  pub two-rests : accesses (after calls .remains 2) ≡ false
+  pub three-rests : ever (worldTaker two) (λ w. accesses (w .remains 3)) (start two) calls ≡ false
   -- a step before the enter, a second enter, a process above n, a step and a crash after the return, a step and a crash after a crash
   pub refused : counts (worldTaker two) isRefused (start two) calls ≡ 7
   -- what was deposited: by the first enter, and by nobody above n
+  pub two-deposits : deposits (worldTaker two) (start two) calls 2 ≡ 9
   pub one-deposits : deposits (worldTaker two) (start two) calls 1 ≡ 7
   pub nobody-deposits : deposits (worldTaker two) (start two) calls 3 ≡ 0
+  -- an accepted enter of 2 is among the calls, and none of 3
+  pub two-admitted : admits (worldTaker two) (start two) calls 2 ≡ true
+  pub three-admitted : admits (worldTaker two) (start two) calls 3 ≡ false
   pub has-entered : after calls .entered 2 ≡ true
   pub has-not-entered : after calls .entered 3 ≡ false

@@ -23,6 +23,10 @@ pub record World (A R : Type 0) : Type 0 where
 abbrev pub start : {A R : Type 0} → Algorithm A R → World A R
 start a = record { registers = a .initially; entered = λ p. false; remains = λ p. halted }
 
+-- one of the processes 1 to n
+abbrev pub among : ℕ → ℕ → Bool
+among n p = leb 1 p && leb p n
+
 -- f with x for p
 abbrev pub changed : {X : Type 0} → (ℕ → X) → ℕ → X → ℕ → X
 changed f p x q = cond (eqb q p) x (f q)
@@ -30,7 +34,7 @@ changed f p x q = cond (eqb q p) x (f q)
 -- Enter: a process 1 to n that has not entered. Step: one whose program begins with an access. Crash: one that has entered, has not crashed and has
 -- not returned; its program begins with an access.
 abbrev pub takes : {A R : Type 0} → Algorithm A R → World A R → Call → Bool
-takes a w (enters p v) = leb 1 p && leb p (a .processes) && not (w .entered p)
+takes a w (enters p v) = among (a .processes) p && not (w .entered p)
 takes a w (steps p) = accesses (w .remains p)
 takes a w (crashes p) = accesses (w .remains p)
 
