@@ -113,11 +113,14 @@ accessesAreInRange =
     ∷ sides (λ k. row2By1 7 (crashedAt 2 k 1 7)) 3 2
     ∷ []
 
--- "the registers it found filled are among those it has read there": the register that it reads next is not; before the write none is
+-- "the registers it found filled are among those it has read there": the register that it reads next is not, its own or another's; before the
+-- write none is
 abbrev pub foundWasRead : List BothSides
 foundWasRead =
     sides (λ k. row2By1 7 (runningAt 2 k 1 7)) 1 2
     ∷ sides (λ k. row2By1 7 (crashedAt 2 k 1 7)) 1 2
+    ∷ sides (λ f. row2By2 (row2By1 7 (runningAt 2 2 f 7)) (runningAt 2 1 0 9)) 3 1
+    ∷ sides (λ f. row2By2 (row2By1 7 (crashedAt 2 2 f 7)) (runningAt 2 1 0 9)) 3 1
     ∷ sides (λ f. withProcess (row2By1 7 (runningAt 2 1 0 7)) 2 (runningAt 2 0 f 9)) 1 0
     ∷ sides (λ f. withProcess (row2By1 7 (runningAt 2 1 0 7)) 2 (crashedAt 2 0 f 9)) 1 0
     ∷ []
