@@ -60,17 +60,22 @@ pub record Small : Type 0 where
   pub spent-header : RunLine (MN 2 ++ MN 2) 0 13 3 0 0 0
   pub empty : RunLine [] 0 9 0 0 0 0
   pub one-byte : RunLine (ascii "M") 0 11 0 0 0 0
+  pub other-byte : RunLine (0 ∷ []) 0 11 0 0 0 0
   pub other-mark : RunLine (EN 1 7) 0 9 0 0 0 0
+  pub half-mark : RunLine (ascii "MX" ++ 2 ∷ []) 0 9 0 0 0 0
   pub bare-mark : RunLine (ascii "MN") 0 11 0 0 0 0
   pub none : RunLine (MN 0 ++ ST 1) 0 8 0 0 0 0
   pub many : RunLine (MN 33 ++ ST 1) 5 8 0 0 0 0
+  pub fewest : RunLine (MN 1) 5 0 3 0 0 0
   pub most : RunLine (MN 32) 5 0 3 0 0 0
   -- a later record
   pub byte-left : RunLine (MN 2 ++ ascii "E") 5 11 3 0 0 0
+  pub any-byte-left : RunLine (MN 2 ++ 0 ∷ []) 5 11 3 0 0 0
   pub again : RunLine (MN 2 ++ MN 2) 5 12 3 0 0 0
   pub again-bare : RunLine (MN 2 ++ ascii "MN") 5 12 3 0 0 0
   pub view : RunLine (MN 2 ++ ascii "VW") 5 10 3 0 0 0
   pub foreign : RunLine (MN 2 ++ 0 ∷ 0 ∷ []) 5 10 3 0 0 0
+  pub half-foreign : RunLine (MN 2 ++ ascii "SN" ++ 1 ∷ []) 5 10 3 0 0 0
   pub enter-cut : RunLine (MN 2 ++ ascii "EN" ++ 1 ∷ 7 ∷ 0 ∷ 0 ∷ []) 5 11 3 0 0 0
   pub step-cut : RunLine (MN 2 ++ ascii "ST") 5 11 3 0 0 0
   pub crash-cut : RunLine (MN 2 ++ ascii "CR") 5 11 3 0 0 0
@@ -88,13 +93,14 @@ pub record HeaderRefused : Type 0 where
   pub none : replayOf (MN 0 ++ EN 1 7) 5 .machine ≡ fresh 1
   pub line : RunLine (MN 33 ++ EN 1 7) 5 8 0 0 0 0
 
--- Calls and their bytes, both ways: a value whose four bytes differ, the lowest first; the largest value; process numbers that no machine has.
+-- Calls and their bytes, both ways, every byte as a number: a value whose four bytes differ, the lowest first; the largest value; process numbers that
+-- no machine has.
 abbrev pub spelledCalls : List Call
 spelledCalls = enters 1 16909060 ∷ steps 255 ∷ enters 2 4294967295 ∷ crashes 0 ∷ []
 
 abbrev pub spelledFile : List ℕ
 spelledFile =
-    ascii "MN" ++ 2 ∷ ascii "EN" ++ 1 ∷ 4 ∷ 3 ∷ 2 ∷ 1 ∷ ascii "ST" ++ 255 ∷ ascii "EN" ++ 2 ∷ 255 ∷ 255 ∷ 255 ∷ 255 ∷ ascii "CR" ++ 0 ∷ []
+    77 ∷ 78 ∷ 2 ∷ 69 ∷ 78 ∷ 1 ∷ 4 ∷ 3 ∷ 2 ∷ 1 ∷ 83 ∷ 84 ∷ 255 ∷ 69 ∷ 78 ∷ 2 ∷ 255 ∷ 255 ∷ 255 ∷ 255 ∷ 67 ∷ 82 ∷ 0 ∷ []
 
 pub record Spelled : Type 0 where
   pub written : orderFile 2 spelledCalls ≡ spelledFile
