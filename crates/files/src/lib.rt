@@ -6,7 +6,7 @@ use formats::Order;
 use formats::ViewRecord;
 ghost use mathlib.Core.Path.{_≡_};
 ghost use Prim.Native.Nat.{_<_};
-ghost use Rattle.formats.specs.Numbers.{numberOf};
+ghost use Rattle.formats.specs.Numbers.{fileNumber};
 ghost use Rattle.formats.specs.Records.{byteAt, wordAt, isMark, markOf, markAt, fits, headerBy, headerOf, orderBy, orderAt, viewBy, viewAt};
 
 // A byte as a number.
@@ -207,7 +207,7 @@ pub fn view_at(s: &[u8], at: usize) -> ViewRecord
 
 // Document 01's number for an answer.
 pub fn number(a: FileAnswer) -> u32
-    ensures { λ r. ⌜ r ≡ numberOf a ⌝ }
+    ensures { λ r. ⌜ r ≡ fileNumber a ⌝ }
 {
     match a {
         FileAnswer::Whole => 0,

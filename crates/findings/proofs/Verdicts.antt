@@ -13,7 +13,7 @@ use Rattle.formats.specs.declared.FileAnswer.the-variants.{Whole, OutOfRange, N
 use Rattle.formats.specs.declared.FileAnswer.the-variants.{BudgetSpent, NoProcess, SecondView, NamesAbove}
 use Rattle.formats.specs.declared.Views.{Views}
 use Rattle.formats.specs.declared.ViewsRead.{ViewsRead}
-use Rattle.formats.specs.Numbers.{numberOf, accepted}
+use Rattle.formats.specs.Numbers.{fileNumber, isWhole}
 use Rattle.formats.specs.ViewFile.{readOf}
 use Rattle.findings.specs.declared.Finding.{Finding}
 use Rattle.findings.specs.declared.Finding.the-variants.{Nothing, LacksItself, Apart, Unlike, Disagree}
@@ -30,26 +30,26 @@ use Rattle.findings.proofs.FirstBreak.{real-findings, yes-is-no-finding
 abbrev pub parts : ℕ → ℕ → ℕ → ℕ → FileVerdict
 parts k at i j = record { number = k; place = at; i = i; j = j }
 
-pub verdict-read : (r : ViewsRead) (f : Found) (k : ℕ) → numberOf (r .answer) ≡ 0 → f ≡ checkOf (r .views) → k ≡ findingNumber (f .finding)
+pub verdict-read : (r : ViewsRead) (f : Found) (k : ℕ) → fileNumber (r .answer) ≡ 0 → f ≡ checkOf (r .views) → k ≡ findingNumber (f .finding)
     → parts k (r .place) (f .i) (f .j) ≡ verdictBy r
 verdict-read r f k z e n =
     ap (λ (x : ℕ). parts x (r .place) (f .i) (f .j)) n
     ∙ ap (judged (r .place)) e
-    ∙ sym (ap (λ (b : Bool). cond b (judged (r .place) (checkOf (r .views))) (unread (numberOf (r .answer)) (r .place)))
-    (eq-eqb (numberOf (r .answer)) 0 z))
+    ∙ sym (ap (λ (b : Bool). cond b (judged (r .place) (checkOf (r .views))) (unread (fileNumber (r .answer)) (r .place)))
+    (eq-eqb (fileNumber (r .answer)) 0 z))
 
-pub verdict-refused : (r : ViewsRead) (k : ℕ) → k ≡ numberOf (r .answer) → (k ≡ 0 → ⊥) → parts k (r .place) 0 0 ≡ verdictBy r
+pub verdict-refused : (r : ViewsRead) (k : ℕ) → k ≡ fileNumber (r .answer) → (k ≡ 0 → ⊥) → parts k (r .place) 0 0 ≡ verdictBy r
 verdict-refused r k e n =
     ap (λ (x : ℕ). parts x (r .place) 0 0) e
-    ∙ sym (ap (λ (b : Bool). cond b (judged (r .place) (checkOf (r .views))) (unread (numberOf (r .answer)) (r .place)))
-    (ne-eqb (numberOf (r .answer)) 0 (λ z. n (e ∙ z))))
+    ∙ sym (ap (λ (b : Bool). cond b (judged (r .place) (checkOf (r .views))) (unread (fileNumber (r .answer)) (r .place)))
+    (ne-eqb (fileNumber (r .answer)) 0 (λ z. n (e ∙ z))))
 
 -- The verdict of a file, from what its reading answers.
-verdict-if : (s : List ℕ) (b : Bool) → accepted (readOf s .answer) ≡ b
-    → verdictOf s ≡ cond b (judged (readOf s .place) (checkOf (readOf s .views))) (unread (numberOf (readOf s .answer)) (readOf s .place))
+verdict-if : (s : List ℕ) (b : Bool) → isWhole (readOf s .answer) ≡ b
+    → verdictOf s ≡ cond b (judged (readOf s .place) (checkOf (readOf s .views))) (unread (fileNumber (readOf s .answer)) (readOf s .place))
 unfolding verdictOf
 verdict-if s b e =
-    ap (λ (c : Bool). cond c (judged (readOf s .place) (checkOf (readOf s .views))) (unread (numberOf (readOf s .answer)) (readOf s .place))) e
+    ap (λ (c : Bool). cond c (judged (readOf s .place) (checkOf (readOf s .views))) (unread (fileNumber (readOf s .answer)) (readOf s .place))) e
 
 pub refused-first : RefusedFirst
 refused-first s e = verdict-if s false e
@@ -65,15 +65,15 @@ no-number Apart e = absurd (omega arith)
 no-number Unlike e = absurd (omega arith)
 no-number Disagree e = absurd (omega arith)
 
-yes-by : (s : List ℕ) → verdictOf s .number ≡ 0 → (accepted (readOf s .answer) ≡ true) × Obeys (readOf s .views)
+yes-by : (s : List ℕ) → verdictOf s .number ≡ 0 → (isWhole (readOf s .answer) ≡ true) × Obeys (readOf s .views)
 unfolding checkOf
 yes-by s z =
     ⊎-elim
     (λ e. let v : Views = readOf s .views in
     let k : findingNumber (checkOf v .finding) ≡ 0 = sym (ap (λ (x : FileVerdict). x .number) (read-then-checked s e)) ∙ z in
     (e, accepts-exactly v .0 (none-first (findings v) (real-findings v) (no-number (checkOf v .finding) k))))
-    (λ e. absurd (eqb-false (numberOf (readOf s .answer)) 0 e (sym (ap (λ (x : FileVerdict). x .number) (refused-first s e)) ∙ z)))
-    (either (accepted (readOf s .answer)))
+    (λ e. absurd (eqb-false (fileNumber (readOf s .answer)) 0 e (sym (ap (λ (x : FileVerdict). x .number) (refused-first s e)) ∙ z)))
+    (either (isWhole (readOf s .answer)))
 
 pub yes-exactly : YesExactly
 yes-exactly s = (
@@ -103,7 +103,7 @@ finding-number Apart = inr (omega arith)
 finding-number Unlike = inr (omega arith)
 finding-number Disagree = inr (omega arith)
 
-file-number : (a : FileAnswer) → numberOf a < 20
+file-number : (a : FileAnswer) → fileNumber a < 20
 file-number Whole = omega arith
 file-number OutOfRange = omega arith
 file-number NotHeader = omega arith
@@ -121,24 +121,24 @@ module _ (s : List ℕ) where
   found = checkOf (readOf s .views) .finding
 
   told : ℕ
-  told = numberOf (readOf s .answer)
+  told = fileNumber (readOf s .answer)
 
-  of-read : accepted (readOf s .answer) ≡ true → verdictOf s .number ≡ findingNumber found
+  of-read : isWhole (readOf s .answer) ≡ true → verdictOf s .number ≡ findingNumber found
   unfolding found
   of-read e = ap (λ (x : FileVerdict). x .number) (read-then-checked s e)
 
-  of-refused : accepted (readOf s .answer) ≡ false → verdictOf s .number ≡ told
+  of-refused : isWhole (readOf s .answer) ≡ false → verdictOf s .number ≡ told
   unfolding told
   of-refused e = ap (λ (x : FileVerdict). x .number) (refused-first s e)
 
   finds : (k : Finding) → k ≢ Nothing → verdictOf s .number ≡ findingNumber k
-      → (accepted (readOf s .answer) ≡ true) × (checkOf (readOf s .views) .finding ≡ k)
+      → (isWhole (readOf s .answer) ≡ true) × (checkOf (readOf s .views) .finding ≡ k)
   unfolding found told
   finds k n e =
       ⊎-elim
       (λ t. (t, sym (finding-back found) ∙ ap findingOf (sym (of-read t) ∙ e) ∙ finding-back k))
       (λ t. absurd (⊎-elim (λ z. n z) (λ l. omega (arith, file-number (readOf s .answer), of-refused t)) (finding-number k)))
-      (either (accepted (readOf s .answer)))
+      (either (isWhole (readOf s .answer)))
 
   refuses : (x : ℕ) → x ≢ 0 → x < 20 → verdictOf s .number ≡ x → told ≡ x
   refuses x n l e =
@@ -148,7 +148,7 @@ module _ (s : List ℕ) where
       (λ h. omega (arith, of-read t))
       (finding-number found)))
       (λ t. sym (of-refused t) ∙ e)
-      (either (accepted (readOf s .answer)))
+      (either (isWhole (readOf s .answer)))
 
   verdict-numbers : VerdictNumbers s
   unfolding found told

@@ -8,7 +8,7 @@ use lib.ListN.{length}
 use Rattle.sets.specs.Sets.{has}
 use Rattle.sets.specs.Immediate.{Inside, Immediate}
 use Rattle.formats.specs.declared.Views.{Views}
-use Rattle.formats.specs.Numbers.{numberOf, accepted}
+use Rattle.formats.specs.Numbers.{fileNumber, isWhole}
 use Rattle.formats.specs.Views.{owns, seenBy, valueBy, noneOf}
 use Rattle.formats.specs.ViewFile.{readOf}
 use Rattle.findings.specs.declared.Finding.{Finding}
@@ -115,20 +115,20 @@ NamesTheFirst = (v : Views) (k : Finding) (i j : ℕ) → k ≢ Nothing
 
 -- The verdict of a file: the file's own numbers first, and then the checker's answer, with the file's length as the place.
 abbrev pub RefusedFirst : Type 0
-RefusedFirst = (s : List ℕ) → accepted (readOf s .answer) ≡ false → verdictOf s ≡ unread (numberOf (readOf s .answer)) (readOf s .place)
+RefusedFirst = (s : List ℕ) → isWhole (readOf s .answer) ≡ false → verdictOf s ≡ unread (fileNumber (readOf s .answer)) (readOf s .place)
 
 abbrev pub ReadThenChecked : Type 0
-ReadThenChecked = (s : List ℕ) → accepted (readOf s .answer) ≡ true → verdictOf s ≡ judged (length s) (checkOf (readOf s .views))
+ReadThenChecked = (s : List ℕ) → isWhole (readOf s .answer) ≡ true → verdictOf s ≡ judged (length s) (checkOf (readOf s .views))
 
 -- Each number exactly: one of 20 to 23 where the file is read and the checker finds it, and one below where the reader gives it.
 pub record VerdictNumbers (s : List ℕ) : Type 0 where
   pub finding : (k : Finding) → k ≢ Nothing
-      → (verdictOf s .number ≡ findingNumber k) ↔ ((accepted (readOf s .answer) ≡ true) × (checkOf (readOf s .views) .finding ≡ k))
-  pub refusal : (x : ℕ) → x ≢ 0 → x < 20 → (verdictOf s .number ≡ x) ↔ (numberOf (readOf s .answer) ≡ x)
+      → (verdictOf s .number ≡ findingNumber k) ↔ ((isWhole (readOf s .answer) ≡ true) × (checkOf (readOf s .views) .finding ≡ k))
+  pub refusal : (x : ℕ) → x ≢ 0 → x < 20 → (verdictOf s .number ≡ x) ↔ (fileNumber (readOf s .answer) ≡ x)
 
 abbrev pub EveryVerdictNumbered : Type 0
 EveryVerdictNumbered = (s : List ℕ) → VerdictNumbers s
 
 -- 0 exactly for a file that is read and whose views obey the three properties
 abbrev pub YesExactly : Type 0
-YesExactly = (s : List ℕ) → (verdictOf s .number ≡ 0) ↔ ((accepted (readOf s .answer) ≡ true) × Obeys (readOf s .views))
+YesExactly = (s : List ℕ) → (verdictOf s .number ≡ 0) ↔ ((isWhole (readOf s .answer) ≡ true) × Obeys (readOf s .views))

@@ -4,7 +4,7 @@ use Prim.Native.Nat.{ℕ}
 use mathlib.Core.Bool.{cond}
 use mathlib.Core.List.{List}
 use Rattle.formats.specs.declared.ViewsRead.{ViewsRead}
-use Rattle.formats.specs.Numbers.{numberOf, accepted}
+use Rattle.formats.specs.Numbers.{fileNumber, isWhole}
 use Rattle.formats.specs.ViewFile.{readOf}
 use Rattle.findings.specs.declared.Found.{Found}
 use Rattle.findings.specs.declared.FileVerdict.{FileVerdict}
@@ -19,7 +19,7 @@ abbrev pub unread : ℕ → ℕ → FileVerdict
 unread number place = record { number = number; place = place; i = 0; j = 0 }
 
 abbrev pub verdictBy : ViewsRead → FileVerdict
-verdictBy r = cond (accepted (r .answer)) (judged (r .place) (checkOf (r .views))) (unread (numberOf (r .answer)) (r .place))
+verdictBy r = cond (isWhole (r .answer)) (judged (r .place) (checkOf (r .views))) (unread (fileNumber (r .answer)) (r .place))
 
 unfoldable pub verdictOf : List ℕ → FileVerdict
 verdictOf s = verdictBy (readOf s)

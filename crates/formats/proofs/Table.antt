@@ -17,7 +17,7 @@ use Rattle.formats.specs.declared.Mark.{Mark}
 use Rattle.formats.specs.declared.Header.{Header}
 use Rattle.formats.specs.declared.ViewRecord.{ViewRecord}
 use Rattle.formats.specs.declared.ViewRecord.the-variants.{End, Fault, View}
-use Rattle.formats.specs.Numbers.{numberOf}
+use Rattle.formats.specs.Numbers.{fileNumber}
 use Rattle.formats.specs.Records.{byteAt, wordAt, isMark, markOf, markAt, fits, headerBy, headerOf, viewBy, viewAt}
 use Rattle.formats.specs.ViewFile.{valuesFit, testedBy, testedAt}
 use Rattle.sets.specs.Lines.{when, firstThat}
@@ -155,7 +155,7 @@ tested-at s at n own h =
 -- the number of what stands at a place
 abbrev pub recordNumber : ViewRecord → ℕ
 recordNumber End = 0
-recordNumber (Fault a) = numberOf a
+recordNumber (Fault a) = fileNumber a
 recordNumber (View p w) = 0
 
 number-chain : (a b c d e f g h : Bool) (p w : ℕ)
@@ -189,19 +189,19 @@ record-number s at n own before h e f =
     ∷ when 16 (not (within w (first n))) ∷ when 11 g ∷ [])) e f
 
 -- a fault has a number
-told-apart : (x y : FileAnswer) → Fault x ≡ Fault y → numberOf y ≡ 0 → numberOf x ≡ 0
+told-apart : (x y : FileAnswer) → Fault x ≡ Fault y → fileNumber y ≡ 0 → fileNumber x ≡ 0
 told-apart x y q z = ap recordNumber q ∙ z
 
-chain-fault : (a b c d e f g h : Bool) (p w : ℕ) (x : FileAnswer) → chain a b c d e f g h (View p w) ≡ Fault x → numberOf x ≢ 0
+chain-fault : (a b c d e f g h : Bool) (p w : ℕ) (x : FileAnswer) → chain a b c d e f g h (View p w) ≡ Fault x → fileNumber x ≢ 0
 unfolding chain
-chain-fault true b c d e f g h p w x q z = let y : numberOf MarkCut ≡ 0 = told-apart MarkCut x q z in omega arith
-chain-fault false true c d e f g h p w x q z = let y : numberOf HeaderAgain ≡ 0 = told-apart HeaderAgain x q z in omega arith
-chain-fault false false true d e f g h p w x q z = let y : numberOf OtherMark ≡ 0 = told-apart OtherMark x q z in omega arith
-chain-fault false false false true e f g h p w x q z = let y : numberOf BodyCut ≡ 0 = told-apart BodyCut x q z in omega arith
-chain-fault false false false false true f g h p w x q z = let y : numberOf NoProcess ≡ 0 = told-apart NoProcess x q z in omega arith
-chain-fault false false false false false true g h p w x q z = let y : numberOf SecondView ≡ 0 = told-apart SecondView x q z in omega arith
-chain-fault false false false false false false true h p w x q z = let y : numberOf NamesAbove ≡ 0 = told-apart NamesAbove x q z in omega arith
-chain-fault false false false false false false false true p w x q z = let y : numberOf BodyCut ≡ 0 = told-apart BodyCut x q z in omega arith
+chain-fault true b c d e f g h p w x q z = let y : fileNumber MarkCut ≡ 0 = told-apart MarkCut x q z in omega arith
+chain-fault false true c d e f g h p w x q z = let y : fileNumber HeaderAgain ≡ 0 = told-apart HeaderAgain x q z in omega arith
+chain-fault false false true d e f g h p w x q z = let y : fileNumber OtherMark ≡ 0 = told-apart OtherMark x q z in omega arith
+chain-fault false false false true e f g h p w x q z = let y : fileNumber BodyCut ≡ 0 = told-apart BodyCut x q z in omega arith
+chain-fault false false false false true f g h p w x q z = let y : fileNumber NoProcess ≡ 0 = told-apart NoProcess x q z in omega arith
+chain-fault false false false false false true g h p w x q z = let y : fileNumber SecondView ≡ 0 = told-apart SecondView x q z in omega arith
+chain-fault false false false false false false true h p w x q z = let y : fileNumber NamesAbove ≡ 0 = told-apart NamesAbove x q z in omega arith
+chain-fault false false false false false false false true p w x q z = let y : fileNumber BodyCut ≡ 0 = told-apart BodyCut x q z in omega arith
 chain-fault false false false false false false false false p w x q z = let y : _≡_ {A = ℕ} 0 1 = cc in omega arith
 
 -- The first record.
@@ -255,7 +255,7 @@ header-is s =
 
 abbrev pub headerNumber : Header → ℕ
 headerNumber (Header.Of n) = 0
-headerNumber (Header.Fault a) = numberOf a
+headerNumber (Header.Fault a) = fileNumber a
 
 header-chain : (a b c d e : Bool) (n : ℕ)
     → headerNumber (headerChain a b c d e (Header.Of n)) ≡ firstThat (when 9 a ∷ when 11 b ∷ when 9 c ∷ when 11 d ∷ when 8 e ∷ [])
@@ -273,16 +273,16 @@ header-number s =
     ∙ header-chain (eqb (length s) 0) (eqb (length s) 1) (not (isMark 77 78 (byteAt s 0) (byteAt s 1))) (ltb (length s) 3)
     (not (leb 1 (byteAt s 2) && leb (byteAt s 2) 32)) (byteAt s 2)
 
-header-fault : (a b c d e : Bool) (n : ℕ) (x : FileAnswer) → headerChain a b c d e (Header.Of n) ≡ Header.Fault x → numberOf x ≢ 0
+header-fault : (a b c d e : Bool) (n : ℕ) (x : FileAnswer) → headerChain a b c d e (Header.Of n) ≡ Header.Fault x → fileNumber x ≢ 0
 unfolding headerChain
-header-fault true b c d e n x q z = let y : numberOf NotHeader ≡ 0 = ap headerNumber q ∙ z in omega arith
-header-fault false true c d e n x q z = let y : numberOf MarkCut ≡ 0 = ap headerNumber q ∙ z in omega arith
-header-fault false false true d e n x q z = let y : numberOf NotHeader ≡ 0 = ap headerNumber q ∙ z in omega arith
-header-fault false false false true e n x q z = let y : numberOf BodyCut ≡ 0 = ap headerNumber q ∙ z in omega arith
-header-fault false false false false true n x q z = let y : numberOf OutOfRange ≡ 0 = ap headerNumber q ∙ z in omega arith
+header-fault true b c d e n x q z = let y : fileNumber NotHeader ≡ 0 = ap headerNumber q ∙ z in omega arith
+header-fault false true c d e n x q z = let y : fileNumber MarkCut ≡ 0 = ap headerNumber q ∙ z in omega arith
+header-fault false false true d e n x q z = let y : fileNumber NotHeader ≡ 0 = ap headerNumber q ∙ z in omega arith
+header-fault false false false true e n x q z = let y : fileNumber BodyCut ≡ 0 = ap headerNumber q ∙ z in omega arith
+header-fault false false false false true n x q z = let y : fileNumber OutOfRange ≡ 0 = ap headerNumber q ∙ z in omega arith
 header-fault false false false false false n x q z = let y : _≡_ {A = ℕ} 0 1 = cc in omega arith
 
-pub header-refused : (s : List ℕ) (x : FileAnswer) → headerOf s ≡ Header.Fault x → numberOf x ≢ 0
+pub header-refused : (s : List ℕ) (x : FileAnswer) → headerOf s ≡ Header.Fault x → fileNumber x ≢ 0
 header-refused s x e =
     header-fault (eqb (length s) 0) (eqb (length s) 1) (not (isMark 77 78 (byteAt s 0) (byteAt s 1))) (ltb (length s) 3)
     (not (leb 1 (byteAt s 2) && leb (byteAt s 2) 32)) (byteAt s 2) x (sym (header-is s) ∙ e)
@@ -307,7 +307,7 @@ not-end s at n own l e =
     (not (within (wordAt s (at + 3)) (first n))) (ltb (length s) (at + 7 + 4 * size (wordAt s (at + 3)))) (byteAt s (at + 2)) (wordAt s (at + 3))
     (sym (tested-at s at n own l) ∙ e)
 
-pub record-refused : (s : List ℕ) (at n own : ℕ) (x : FileAnswer) → at < length s → testedAt s at n own ≡ Fault x → numberOf x ≢ 0
+pub record-refused : (s : List ℕ) (at n own : ℕ) (x : FileAnswer) → at < length s → testedAt s at n own ≡ Fault x → fileNumber x ≢ 0
 record-refused s at n own x l e =
     chain-fault (eqb (length s) (at + 1)) (isMark 77 78 (byteAt s at) (byteAt s (at + 1))) (not (isMark 86 87 (byteAt s at) (byteAt s (at + 1))))
     (ltb (length s) (at + 7)) (not (leb 1 (byteAt s (at + 2)) && leb (byteAt s (at + 2)) n)) (has own (byteAt s (at + 2)))

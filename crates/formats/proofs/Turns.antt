@@ -9,13 +9,13 @@ use Rattle.formats.specs.declared.FileAnswer.{FileAnswer}
 use Rattle.formats.specs.declared.ViewRecord.{ViewRecord}
 use Rattle.formats.specs.declared.ViewRecord.the-variants.{End, Fault, View}
 use Rattle.formats.specs.declared.Views.{Views}
-use Rattle.formats.specs.ViewFile.{testedAt, withView, refusedAt, readWhole, onward, readFrom}
+use Rattle.formats.specs.ViewFile.{testedAt, withView, refusedAt, readWhole, readNext, readFrom}
 
 -- the turns that are left after one
 record Turn (turns : ℕ) (s : List ℕ) (at : ℕ) (v : Views) : Type 0 where
   left : ℕ
   enough : length s ≤ at + left
-  step : readFrom turns s at v ≡ onward s at v (testedAt s at (v .n) (v .own)) (readFrom left s)
+  step : readFrom turns s at v ≡ readNext s at v (testedAt s at (v .n) (v .own)) (readFrom left s)
 
 turn : (turns : ℕ) (s : List ℕ) (at : ℕ) (v : Views) → at ≤ length s → length s < at + turns → Turn turns s at v
 unfolding readFrom
@@ -24,8 +24,8 @@ turn (suc k) s at v h l = record { left = k; enough = omega arith; step = refl }
 
 -- the same once it is known what stands there
 turned : (turns : ℕ) (s : List ℕ) (at : ℕ) (v : Views) (r : ViewRecord) (t : Turn turns s at v) → testedAt s at (v .n) (v .own) ≡ r
-    → readFrom turns s at v ≡ onward s at v r (readFrom (t .left) s)
-turned turns s at v r t e = t .step ∙ ap (λ (x : ViewRecord). onward s at v x (readFrom (t .left) s)) e
+    → readFrom turns s at v ≡ readNext s at v r (readFrom (t .left) s)
+turned turns s at v r t e = t .step ∙ ap (λ (x : ViewRecord). readNext s at v x (readFrom (t .left) s)) e
 
 module _ (turns : ℕ) (s : List ℕ) (at : ℕ) (v : Views) (h : at ≤ length s) (l : length s < at + turns) where
   pub read-end : testedAt s at (v .n) (v .own) ≡ End → readFrom turns s at v ≡ readWhole s v

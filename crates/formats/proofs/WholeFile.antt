@@ -16,10 +16,10 @@ use Rattle.formats.specs.declared.ViewRecord.{ViewRecord}
 use Rattle.formats.specs.declared.ViewRecord.the-variants.{End, Fault, View}
 use Rattle.formats.specs.declared.Views.{Views}
 use Rattle.formats.specs.declared.ViewsRead.{ViewsRead}
-use Rattle.formats.specs.Numbers.{numberOf, accepted}
+use Rattle.formats.specs.Numbers.{fileNumber, isWhole}
 use Rattle.formats.specs.Records.{headerOf}
 use Rattle.formats.specs.Views.{noneOf, InRange}
-use Rattle.formats.specs.ViewFile.{testedAt, withView, refusedAt, readWhole, onward, readFrom, readBy, readOf}
+use Rattle.formats.specs.ViewFile.{testedAt, withView, refusedAt, readWhole, readNext, readFrom, readBy, readOf}
 use Rattle.sets.specs.Lines.{firstThat}
 use Rattle.formats.specs.Table.{recordLines, Reached, Refusal, RefusedExactly, ReadExactly}
 use Rattle.formats.specs.Promises.{ReadInRange, ReadPlace, RefusedGivesNone}
@@ -53,7 +53,7 @@ data Ends (s : List ℕ) (r : ViewsRead) : Type 0 where
 
 ends-by : (s : List ℕ) (at : ℕ) (before : List ℕ) (v : Views) → Walked s at before v → at ≤ length s → (next : ℕ → Views → ViewsRead)
     → ((p w : ℕ) → testedAt s at (v .n) (v .own) ≡ View p w → Ends s (next (at + (7 + 4 * size w)) (withView s at v p w)))
-    → (x : ViewRecord) → testedAt s at (v .n) (v .own) ≡ x → Ends s (onward s at v x next)
+    → (x : ViewRecord) → testedAt s at (v .n) (v .own) ≡ x → Ends s (readNext s at v x next)
 ends-by s at before v r l next go End e =
     ⊎-elim
     (λ q. whole before v (subst (λ (y : ℕ). Walked s y before v) q r) refl)
@@ -91,8 +91,8 @@ file-ends : (s : List ℕ) → FileEnds s
 file-ends s = file-by s (headerOf s) refl
 
 -- a refusal is no whole reading
-never-whole : (s : List ℕ) (a : FileAnswer) (at : ℕ) (v : Views) → numberOf a ≢ 0 → readOf s ≡ refusedAt a at → readOf s ≡ readWhole s v → ⊥
-never-whole s a at v n e f = n (ap (λ (r : ViewsRead). numberOf (r .answer)) (sym e ∙ f))
+never-whole : (s : List ℕ) (a : FileAnswer) (at : ℕ) (v : Views) → fileNumber a ≢ 0 → readOf s ≡ refusedAt a at → readOf s ≡ readWhole s v → ⊥
+never-whole s a at v n e f = n (ap (λ (r : ViewsRead). fileNumber (r .answer)) (sym e ∙ f))
 
 read-whole : (s : List ℕ) (v : Views) → readOf s ≡ readWhole s v → FileEnds s → (places : List ℕ) × Walked s (length s) places v
 read-whole s v e (header a h q) = absurd (never-whole s a 0 v (header-refused s a h) q e)
@@ -111,17 +111,17 @@ read-exactly s v = (
       walked-read (w .1) ∙ ap (readWhole s) (carried-one s (p .0) (w .0) v (walked-carried (w .1)) (p .2)),
 )
 
-refusal : (s : List ℕ) (k at : ℕ) → k ≢ 0 → numberOf (readOf s .answer) ≡ k → readOf s .place ≡ at → FileEnds s → Refusal s k at
+refusal : (s : List ℕ) (k at : ℕ) → k ≢ 0 → fileNumber (readOf s .answer) ≡ k → readOf s .place ≡ at → FileEnds s → Refusal s k at
 refusal s k at n e p (header a h q) =
     inl (
       sym p ∙ ap (λ (x : ViewsRead). x .place) q,
-      sym (header-number s) ∙ ap headerNumber h ∙ sym (ap (λ (x : ViewsRead). numberOf (x .answer)) q) ∙ e,
+      sym (header-number s) ∙ ap headerNumber h ∙ sym (ap (λ (x : ViewsRead). fileNumber (x .answer)) q) ∙ e,
     )
-refusal s k at n e p (records (whole places v r q)) = absurd (n (sym e ∙ ap (λ (x : ViewsRead). numberOf (x .answer)) q))
+refusal s k at n e p (records (whole places v r q)) = absurd (n (sym e ∙ ap (λ (x : ViewsRead). fileNumber (x .answer)) q))
 refusal s k at n e p (records (refused a b before v r l t q)) =
     let place : b ≡ at = sym (ap (λ (x : ViewsRead). x .place) q) ∙ p in
     let number : firstThat (recordLines s b before) ≡ k
-    = sym (walked-number r l) ∙ ap recordNumber t ∙ sym (ap (λ (x : ViewsRead). numberOf (x .answer)) q) ∙ e in
+    = sym (walked-number r l) ∙ ap recordNumber t ∙ sym (ap (λ (x : ViewsRead). fileNumber (x .answer)) q) ∙ e in
     inr (
       before,
       subst (λ (y : ℕ). Reached s y before) place (walked-reached r),
@@ -131,11 +131,11 @@ refusal s k at n e p (records (refused a b before v r l t q)) =
 
 -- the answer and the place of a refusal
 Answers : List ℕ → ℕ → ℕ → Type 0
-Answers s k at = (numberOf (readOf s .answer) ≡ k) × (readOf s .place ≡ at)
+Answers s k at = (fileNumber (readOf s .answer) ≡ k) × (readOf s .place ≡ at)
 
-answers : (s : List ℕ) (a : FileAnswer) (k at : ℕ) → readOf s ≡ refusedAt a at → numberOf a ≡ k → Answers s k at
+answers : (s : List ℕ) (a : FileAnswer) (k at : ℕ) → readOf s ≡ refusedAt a at → fileNumber a ≡ k → Answers s k at
 unfolding Answers
-answers s a k at q e = (ap (λ (x : ViewsRead). numberOf (x .answer)) q ∙ e, ap (λ (x : ViewsRead). x .place) q)
+answers s a k at q e = (ap (λ (x : ViewsRead). fileNumber (x .answer)) q ∙ e, ap (λ (x : ViewsRead). x .place) q)
 
 header-answers : (s : List ℕ) (k : ℕ) → k ≢ 0 → (x : Header) → headerOf s ≡ x → headerNumber x ≡ k → Answers s k 0
 unfolding readOf
@@ -163,8 +163,8 @@ unfolding Answers
 refused-exactly s k at n = (λ p. refusal s k at n (p .0) (p .1) (file-ends s), refused-at s k at n)
 
 -- an answer that is accepted is no refusal, and the other way round
-zero-if : (a : FileAnswer) → accepted a ≡ true → numberOf a ≡ 0
-zero-if a e = eqb-true (numberOf a) 0 e
+zero-if : (a : FileAnswer) → isWhole a ≡ true → fileNumber a ≡ 0
+zero-if a e = eqb-true (fileNumber a) 0 e
 
 -- so it was read to the end
 record ToTheEnd (s : List ℕ) : Type 0 where
@@ -173,11 +173,11 @@ record ToTheEnd (s : List ℕ) : Type 0 where
   walked : Walked s (length s) places views
   same : readOf s ≡ readWhole s views
 
-to-the-end : (s : List ℕ) → accepted (readOf s .answer) ≡ true → FileEnds s → ToTheEnd s
-to-the-end s t (header a h q) = absurd (header-refused s a h (sym (ap (λ (x : ViewsRead). numberOf (x .answer)) q) ∙ zero-if (readOf s .answer) t))
+to-the-end : (s : List ℕ) → isWhole (readOf s .answer) ≡ true → FileEnds s → ToTheEnd s
+to-the-end s t (header a h q) = absurd (header-refused s a h (sym (ap (λ (x : ViewsRead). fileNumber (x .answer)) q) ∙ zero-if (readOf s .answer) t))
 to-the-end s t (records (whole places v r q)) = record { places = places; views = v; walked = r; same = q }
 to-the-end s t (records (refused a at before v r l e q)) =
-    absurd (record-refused s at (v .n) (v .own) a l e (sym (ap (λ (x : ViewsRead). numberOf (x .answer)) q) ∙ zero-if (readOf s .answer) t))
+    absurd (record-refused s at (v .n) (v .own) a l e (sym (ap (λ (x : ViewsRead). fileNumber (x .answer)) q) ∙ zero-if (readOf s .answer) t))
 
 pub read-in-range : ReadInRange
 read-in-range s b t =
@@ -187,9 +187,9 @@ read-in-range s b t =
 pub read-place : ReadPlace
 read-place s t = ap (λ (x : ViewsRead). x .place) (to-the-end s t (file-ends s) .same)
 
-none-if : (s : List ℕ) → accepted (readOf s .answer) ≡ false → FileEnds s → readOf s .views ≡ noneOf 0
+none-if : (s : List ℕ) → isWhole (readOf s .answer) ≡ false → FileEnds s → readOf s .views ≡ noneOf 0
 none-if s t (header a h q) = ap (λ (x : ViewsRead). x .views) q
-none-if s t (records (whole places v r q)) = absurd (true≢false (sym (ap (λ (x : ViewsRead). accepted (x .answer)) q) ∙ t))
+none-if s t (records (whole places v r q)) = absurd (true≢false (sym (ap (λ (x : ViewsRead). isWhole (x .answer)) q) ∙ t))
 none-if s t (records (refused a at before v r l e q)) = ap (λ (x : ViewsRead). x .views) q
 
 pub refused-gives-none : RefusedGivesNone

@@ -11,7 +11,7 @@ use Rattle.formats.specs.declared.FileAnswer.the-variants.{Whole, OtherM
 use Rattle.formats.specs.declared.Order.{Order}
 use Rattle.formats.specs.declared.Views.{Views}
 use Rattle.formats.specs.declared.ViewsRead.{ViewsRead}
-use Rattle.formats.specs.Numbers.{numberOf}
+use Rattle.formats.specs.Numbers.{fileNumber}
 use Rattle.formats.specs.Records.{wordAt, wordBytes, orderAt}
 use Rattle.formats.specs.ViewFile.{fileOf, readOf}
 
@@ -95,7 +95,7 @@ examples =
     ∷ []
 
 abbrev agrees : ViewsRead → ℕ → ℕ → Bool
-agrees r k at = eqb (numberOf (r .answer)) k && eqb (r .place) at
+agrees r k at = eqb (fileNumber (r .answer)) k && eqb (r .place) at
 
 unfoldable pub hold : List Example → Bool
 hold [] = true

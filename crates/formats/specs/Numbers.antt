@@ -6,19 +6,19 @@ use Rattle.formats.specs.declared.FileAnswer.{FileAnswer}
 use Rattle.formats.specs.declared.FileAnswer.the-variants.{Whole, OutOfRange, NotHeader, OtherMark, MarkCut, BodyCut, HeaderAgain}
 use Rattle.formats.specs.declared.FileAnswer.the-variants.{BudgetSpent, NoProcess, SecondView, NamesAbove}
 
-abbrev pub numberOf : FileAnswer → ℕ
-numberOf Whole = 0
-numberOf OutOfRange = 8
-numberOf NotHeader = 9
-numberOf OtherMark = 10
-numberOf MarkCut = 11
-numberOf BodyCut = 11
-numberOf HeaderAgain = 12
-numberOf BudgetSpent = 13
-numberOf NoProcess = 14
-numberOf SecondView = 15
-numberOf NamesAbove = 16
+abbrev pub fileNumber : FileAnswer → ℕ
+fileNumber Whole = 0
+fileNumber OutOfRange = 8
+fileNumber NotHeader = 9
+fileNumber OtherMark = 10
+fileNumber MarkCut = 11
+fileNumber BodyCut = 11
+fileNumber HeaderAgain = 12
+fileNumber BudgetSpent = 13
+fileNumber NoProcess = 14
+fileNumber SecondView = 15
+fileNumber NamesAbove = 16
 
 -- the file was read whole
-abbrev pub accepted : FileAnswer → Bool
-accepted a = eqb (numberOf a) 0
+abbrev pub isWhole : FileAnswer → Bool
+isWhole a = eqb (fileNumber a) 0

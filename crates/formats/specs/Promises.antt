@@ -5,7 +5,7 @@ use mathlib.Core.Path.{_≡_}
 use mathlib.Core.List.{List}
 use lib.ListN.{length}
 use Rattle.formats.specs.declared.Views.{Views}
-use Rattle.formats.specs.Numbers.{accepted}
+use Rattle.formats.specs.Numbers.{isWhole}
 use Rattle.formats.specs.Records.{byteAt}
 use Rattle.formats.specs.Views.{InRange, noneOf}
 use Rattle.formats.specs.ViewFile.{fileOf, readWhole, readOf}
@@ -24,12 +24,12 @@ WritesBytes = (v : Views) → InRange v → Bytes (fileOf v)
 
 -- A file that is read gives views that a file can carry,
 abbrev pub ReadInRange : Type 0
-ReadInRange = (s : List ℕ) → Bytes s → accepted (readOf s .answer) ≡ true → InRange (readOf s .views)
+ReadInRange = (s : List ℕ) → Bytes s → isWhole (readOf s .answer) ≡ true → InRange (readOf s .views)
 
 -- and its place is its length.
 abbrev pub ReadPlace : Type 0
-ReadPlace = (s : List ℕ) → accepted (readOf s .answer) ≡ true → readOf s .place ≡ length s
+ReadPlace = (s : List ℕ) → isWhole (readOf s .answer) ≡ true → readOf s .place ≡ length s
 
 -- "a refused file gives n = 0 and no views"
 abbrev pub RefusedGivesNone : Type 0
-RefusedGivesNone = (s : List ℕ) → accepted (readOf s .answer) ≡ false → readOf s .views ≡ noneOf 0
+RefusedGivesNone = (s : List ℕ) → isWhole (readOf s .answer) ≡ false → readOf s .views ≡ noneOf 0

@@ -10,7 +10,7 @@ use lib.ListN.{length}
 use Rattle.sets.specs.Sets.{has, first, within, count, size}
 use Rattle.sets.specs.Lines.{Line, when, firstThat}
 use Rattle.formats.specs.declared.Views.{Views}
-use Rattle.formats.specs.Numbers.{numberOf}
+use Rattle.formats.specs.Numbers.{fileNumber}
 use Rattle.formats.specs.Records.{byteAt, wordAt, reads}
 use Rattle.formats.specs.Views.{owns, seenBy, valueBy}
 use Rattle.formats.specs.ViewFile.{readWhole, readOf}
@@ -71,7 +71,7 @@ Refusal s k at =
 
 -- each number is given, with its place, exactly when it applies there
 abbrev pub RefusedExactly : Type 0
-RefusedExactly = (s : List ℕ) (k at : ℕ) → k ≢ 0 → ((numberOf (readOf s .answer) ≡ k) × (readOf s .place ≡ at)) ↔ Refusal s k at
+RefusedExactly = (s : List ℕ) (k at : ℕ) → k ≢ 0 → ((fileNumber (readOf s .answer) ≡ k) × (readOf s .place ≡ at)) ↔ Refusal s k at
 
 -- The views that the records at these places carry.
 pub record Carried (s places : List ℕ) (v : Views) : Type 0 where

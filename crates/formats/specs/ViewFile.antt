@@ -67,16 +67,16 @@ abbrev pub readWhole : List ℕ → Views → ViewsRead
 readWhole s v = record { answer = Whole; place = length s; views = v }
 
 -- what follows the record at a place
-abbrev pub onward : List ℕ → ℕ → Views → ViewRecord → (ℕ → Views → ViewsRead) → ViewsRead
-onward s at v ViewRecord.End next = readWhole s v
-onward s at v (ViewRecord.Fault a) next = refusedAt a at
-onward s at v (ViewRecord.View p w) next = next (at + (7 + 4 * size w)) (withView s at v p w)
+abbrev pub readNext : List ℕ → ℕ → Views → ViewRecord → (ℕ → Views → ViewsRead) → ViewsRead
+readNext s at v ViewRecord.End next = readWhole s v
+readNext s at v (ViewRecord.Fault a) next = refusedAt a at
+readNext s at v (ViewRecord.View p w) next = next (at + (7 + 4 * size w)) (withView s at v p w)
 
 -- The records from a place on, `turns` of them at most. A record has seven bytes at least, so the file's length is enough and no file comes to
 -- its last turn, which refuses: specs/Table says what is read, and what is refused, with no turns.
 unfoldable pub readFrom : ℕ → List ℕ → ℕ → Views → ViewsRead
 readFrom zero s at v = refusedAt BodyCut at
-readFrom (suc turns) s at v = onward s at v (testedAt s at (v .n) (v .own)) (readFrom turns s)
+readFrom (suc turns) s at v = readNext s at v (testedAt s at (v .n) (v .own)) (readFrom turns s)
 
 abbrev pub readBy : List ℕ → Header → ViewsRead
 readBy s (Header.Of n) = readFrom (length s) s 3 (noneOf n)

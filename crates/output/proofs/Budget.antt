@@ -11,7 +11,7 @@ use Rattle.formats.specs.declared.FileAnswer.the-variants.{OutOfRange, BodyCut}
 use Rattle.formats.specs.declared.Mark.{Mark}
 use Rattle.formats.specs.declared.Header.{Header}
 use Rattle.formats.specs.declared.Order.{Order}
-use Rattle.formats.specs.Numbers.{numberOf}
+use Rattle.formats.specs.Numbers.{fileNumber}
 use Rattle.formats.specs.Records.{byteAt, fits, markAt, headerBy, headerOf, orderBy, orderAt}
 use Rattle.formats.proofs.Reading.{opened}
 use Rattle.replays.specs.Replays.{Orders, orderThen, ordersFrom, replayBy, replayOf}
@@ -21,7 +21,7 @@ use Rattle.output.specs.Promises.{NeverThirteen}
 -- no record is answered with 13
 abbrev Fine : Order → Type 0
 Fine Order.End = Unit {0}
-Fine (Order.Fault a) = numberOf a ≢ 13
+Fine (Order.Fault a) = fileNumber a ≢ 13
 Fine (Order.Enter p v) = Unit {0}
 Fine (Order.Step p) = Unit {0}
 Fine (Order.Crash p) = Unit {0}
@@ -46,7 +46,7 @@ fine-order s at o e = subst Fine e (fine-by s at (markAt s at))
 
 abbrev Opens : Header → Type 0
 Opens (Header.Of n) = Unit {0}
-Opens (Header.Fault a) = numberOf a ≢ 13
+Opens (Header.Fault a) = fileNumber a ≢ 13
 
 opens-by : (s : List ℕ) (k : Mark) → Opens (headerBy s k)
 opens-by s Mark.End = λ e. omega arith
@@ -70,7 +70,7 @@ opens s = opens-by s (markAt s 0)
 -- The orders from a place on, with a budget for what is left of the file.
 record Read (s : List ℕ) (at : ℕ) (o : Orders) : Type 0 where
   few : at + 3 * length (o .calls) ≤ length s
-  answer : numberOf (o .answer) ≢ 13
+  answer : fileNumber (o .answer) ≢ 13
 
 enough : (k : ℕ) (s : List ℕ) (at : ℕ) → at ≤ length s → length s ≤ at + 3 * k → Read s at (ordersFrom k s at)
 unfolding ordersFrom
@@ -92,7 +92,7 @@ pub never-thirteen : NeverThirteen
 unfolding replayOf
 never-thirteen s h = go (headerOf s) refl (opens s)
   where
-    go : (x : Header) → headerOf s ≡ x → Opens x → (replayBy s 65535 x .taken ≤ 21844) × (numberOf (replayBy s 65535 x .answer) ≢ 13)
+    go : (x : Header) → headerOf s ≡ x → Opens x → (replayBy s 65535 x .taken ≤ 21844) × (fileNumber (replayBy s 65535 x .answer) ≢ 13)
     go (Header.Fault a) e o = (omega arith, o)
     go (Header.Of n) e o =
         let r = enough 65535 s 3 (opened s n e .long) (omega arith) in (omega (arith, r .few), r .answer)

@@ -3,7 +3,7 @@ use Prim.Native.Nat.{ℕ}
 use mathlib.Core.Path.{ap, _∙_}
 use mathlib.Core.List.{List, [], _∷_, _++_, append-assoc}
 use Rattle.sets.specs.Sets.{count}
-use Rattle.formats.specs.Numbers.{numberOf}
+use Rattle.formats.specs.Numbers.{fileNumber}
 use Rattle.text.specs.Ascii.{ascii, lines}
 use Rattle.text.specs.Decimal.{digitsIn, decimal}
 use Rattle.text.specs.Parts.{joined}
@@ -15,7 +15,7 @@ use Rattle.output.proofs.ByLength.{replay-short}
 pub refused-header-prints : RefusedHeaderPrints
 unfolding replayLines runLine joined processLine sightLine decimal digitsIn lastLine partaking count
 refused-header-prints s a h e =
-    let d = decimal (numberOf a) in
+    let d = decimal (fileNumber a) in
     let nobody = lines ("p 1 absent 0 0 -" ∷ "participants 0" ∷ []) in
     replay-short s h ∙ ap replayLines (refused-header s 65535 a e)
     ∙ ap (λ (l : List ℕ). ascii "run " ++ l)

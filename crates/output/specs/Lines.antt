@@ -12,7 +12,7 @@ use Rattle.rules.specs.declared.Machine.{Machine}
 use Rattle.rules.specs.declared.Sight.{Sight}
 use Rattle.rules.specs.State.{stageOf, entered}
 use Rattle.rules.specs.Calls.{looked}
-use Rattle.formats.specs.Numbers.{numberOf}
+use Rattle.formats.specs.Numbers.{fileNumber}
 use Rattle.text.specs.Parts.{joined}
 use Rattle.findings.specs.declared.FileVerdict.{FileVerdict}
 use Rattle.findings.specs.Verdict.{verdictOf}
@@ -91,7 +91,7 @@ processLine m i = sightLine i (looked m (stageOf m i))
 -- "Line 1: `run`, number, place, orders taken, accesses, orders refused."
 unfoldable pub runLine : Replayed → List ℕ
 runLine r =
-    line (run ∷ fields (numberOf (r .answer) ∷ r .place ∷ r .taken ∷ r .accesses ∷ r .refused ∷ []) ∷ [])
+    line (run ∷ fields (fileNumber (r .answer) ∷ r .place ∷ r .taken ∷ r .accesses ∷ r .refused ∷ []) ∷ [])
 
 -- "Last: `participants` and how many processes have entered."
 unfoldable pub partaking : Machine → ℕ

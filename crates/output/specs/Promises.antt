@@ -15,7 +15,7 @@ use Rattle.history.specs.Figure.{Pair}
 use Rattle.history.specs.AsWorld.{programOf}
 use Rattle.formats.specs.declared.FileAnswer.{FileAnswer}
 use Rattle.formats.specs.declared.Header.{Header}
-use Rattle.formats.specs.Numbers.{numberOf}
+use Rattle.formats.specs.Numbers.{fileNumber}
 use Rattle.formats.specs.Records.{headerOf}
 use Rattle.replays.specs.Replays.{replayOf, callsOf, processesOf}
 use Rattle.text.specs.Ascii.{ascii, lines}
@@ -29,12 +29,12 @@ TooLongExactly = (s : List ℕ)
 
 -- "Replay uses a budget of 65,535 orders": 65,535 bytes hold at most 21,844, so that it is never spent, and 13 is never printed.
 abbrev pub NeverThirteen : Type 0
-NeverThirteen = (s : List ℕ) → length s ≤ 65535 → (replayOf s 65535 .taken ≤ 21844) × (numberOf (replayOf s 65535 .answer) ≢ 13)
+NeverThirteen = (s : List ℕ) → length s ≤ 65535 → (replayOf s 65535 .taken ≤ 21844) × (fileNumber (replayOf s 65535 .answer) ≢ 13)
 
 -- "A refused header prints the process line `p 1 absent 0 0 -`": every one, after the line `run`, its number, and 0 four times.
 abbrev pub RefusedHeaderPrints : Type 0
 RefusedHeaderPrints = (s : List ℕ) (a : FileAnswer) → length s ≤ 65535 → headerOf s ≡ Header.Fault a
-    → replayText s ≡ ascii "run " ++ (decimal (numberOf a) ++ lines (" 0 0 0 0" ∷ "p 1 absent 0 0 -" ∷ "participants 0" ∷ []))
+    → replayText s ≡ ascii "run " ++ (decimal (fileNumber a) ++ lines (" 0 0 0 0" ∷ "p 1 absent 0 0 -" ∷ "participants 0" ∷ []))
 
 -- "process:value pairs, .. split by commas"
 abbrev pub pairText : Pair → List ℕ

@@ -136,7 +136,7 @@ accepts n cs m d w =
     let back : readOf (bytesOf m) ≡ readWhole (bytesOf m) (viewsOf m) = written-reads-back m (d .shape .held) w (record-shaped m (d .shape .shape)) in
     record {
       checked = ok;
-      verdict = read-then-checked (bytesOf m) (ap (λ (r : ViewsRead). numbers.accepted (r .answer)) back)
+      verdict = read-then-checked (bytesOf m) (ap (λ (r : ViewsRead). numbers.isWhole (r .answer)) back)
           ∙ ap (λ (r : ViewsRead). judged (length (bytesOf m)) (checkOf (r .views))) back
           ∙ ap (judged (length (bytesOf m))) ok;
     }

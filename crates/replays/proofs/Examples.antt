@@ -17,7 +17,7 @@ use Rattle.history.specs.Runs.{steps, from, tally, allSteps, refusedCalls, acce
 use Rattle.history.specs.Examples.{printed}
 use Rattle.history.proofs.Examples.{printed-counts}
 use Rattle.formats.specs.declared.FileAnswer.the-variants.{Whole}
-use Rattle.formats.specs.Numbers.{numberOf}
+use Rattle.formats.specs.Numbers.{fileNumber}
 use Rattle.formats.specs.Examples.{MN}
 use Rattle.formats.specs.Records.{markOf, markAt, headerOf, orderAt}
 use Rattle.replays.specs.Replays.{Orders, ordersFrom, replayOf}
@@ -42,7 +42,7 @@ line-of : (budget : ℕ) → ordersFrom budget printedFile 3 ≡ record { answer
 unfolding replayOf headerOf markAt markOf
 line-of budget e =
     record {
-      number-is = ap (λ (o : Orders). numberOf (o .answer)) e;
+      number-is = ap (λ (o : Orders). fileNumber (o .answer)) e;
       place-is = ap (λ (o : Orders). o .place) e;
       taken-is = ap (λ (o : Orders). length (o .calls)) e;
       accesses-is = ap (λ (o : Orders). allSteps 2 (o .calls)) e ∙ printed-counts .accesses;

@@ -14,7 +14,7 @@ use borrow.Author.Tests.{ltb-false, eqb-true, le-leb, lt-leb, ne-eqb}
 use Rattle.formats.specs.declared.FileAnswer.the-variants.{OtherMark, MarkCut, BodyCut, HeaderAgain}
 use Rattle.formats.specs.declared.Mark.{Mark}
 use Rattle.formats.specs.declared.Order.{Order}
-use Rattle.formats.specs.Numbers.{numberOf}
+use Rattle.formats.specs.Numbers.{fileNumber}
 use Rattle.formats.specs.Records.{byteAt, wordAt, reads, markOf, markAt, fits, orderBy, orderAt}
 use Rattle.formats.proofs.Table.{not-leb}
 use Rattle.sets.specs.Lines.{when, firstThat}
@@ -135,7 +135,7 @@ order-is s at h =
 -- the number of what stands at a place
 abbrev pub orderNumber : Order → ℕ
 orderNumber Order.End = 0
-orderNumber (Order.Fault a) = numberOf a
+orderNumber (Order.Fault a) = fileNumber a
 orderNumber (Order.Enter p v) = 0
 orderNumber (Order.Step p) = 0
 orderNumber (Order.Crash p) = 0
@@ -143,7 +143,7 @@ orderNumber (Order.Crash p) = 0
 -- which mark an order has, and the numbers in it; a fault has a number
 abbrev Tells : Bool → Bool → Bool → ℕ → ℕ → Order → Type 0
 Tells en st cr q w Order.End = ⊥
-Tells en st cr q w (Order.Fault a) = numberOf a ≢ 0
+Tells en st cr q w (Order.Fault a) = fileNumber a ≢ 0
 Tells en st cr q w (Order.Enter p v) = (en ≡ true) × (q ≡ p) × (w ≡ v)
 Tells en st cr q w (Order.Step p) = (st ≡ true) × (q ≡ p)
 Tells en st cr q w (Order.Crash p) = (cr ≡ true) × (q ≡ p)
@@ -177,7 +177,7 @@ order-number s at h =
 -- an order that is read stands there
 abbrev pub Told : List ℕ → ℕ → Order → Type 0
 Told s at Order.End = ⊥
-Told s at (Order.Fault a) = numberOf a ≢ 0
+Told s at (Order.Fault a) = fileNumber a ≢ 0
 Told s at (Order.Enter p v) = Stands s at "EN" × (byteAt s (at + 2) ≡ p) × (wordAt s (at + 3) ≡ v)
 Told s at (Order.Step p) = Stands s at "ST" × (byteAt s (at + 2) ≡ p)
 Told s at (Order.Crash p) = Stands s at "CR" × (byteAt s (at + 2) ≡ p)

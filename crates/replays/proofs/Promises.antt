@@ -9,7 +9,7 @@ use Rattle.history.proofs.Theorems.{every-state-shaped, never-one-nor-seven, at
 use Rattle.sets.specs.Lines.{firstThat}
 use Rattle.formats.specs.declared.FileAnswer.{FileAnswer}
 use Rattle.formats.specs.declared.Header.{Header}
-use Rattle.formats.specs.Numbers.{numberOf}
+use Rattle.formats.specs.Numbers.{fileNumber}
 use Rattle.formats.specs.Records.{headerOf}
 use Rattle.formats.specs.Table.{headerLines}
 use Rattle.formats.proofs.Reading.{opened}
@@ -42,7 +42,7 @@ refused-header s budget a e = ap (replayBy s budget) e
 none-taken : (s : List ℕ) (budget : ℕ) → firstThat (headerLines s) ≢ 0 → (h : Header) → headerOf s ≡ h → NoneTaken (headerNumber h) (replayOf s budget)
 none-taken s budget z (Header.Of n) e = absurd (z (header-whole s n e))
 none-taken s budget z (Header.Fault a) e =
-    subst (NoneTaken (numberOf a)) (sym (refused-header s budget a e))
+    subst (NoneTaken (fileNumber a)) (sym (refused-header s budget a e))
     (record { number = refl; place = refl; taken = refl; accesses = refl; refused = refl; state = refl })
 
 pub every-refused-header : EveryRefusedHeader

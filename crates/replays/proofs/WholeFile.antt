@@ -15,7 +15,7 @@ use Rattle.formats.specs.declared.FileAnswer.{FileAnswer}
 use Rattle.formats.specs.declared.FileAnswer.the-variants.{Whole, BudgetSpent}
 use Rattle.formats.specs.declared.Header.{Header}
 use Rattle.formats.specs.declared.Order.{Order}
-use Rattle.formats.specs.Numbers.{numberOf}
+use Rattle.formats.specs.Numbers.{fileNumber}
 use Rattle.formats.specs.Records.{byteAt, wordAt, headerOf, orderAt}
 use Rattle.formats.specs.Table.{headerLines}
 use Rattle.sets.specs.Lines.{firstThat}
@@ -253,19 +253,19 @@ few-calls s budget n e = file-stops s budget n e .most
 
 -- Each number exactly when it applies.
 module _ (s : List ℕ) (budget k at : ℕ) (some : k ≢ 0) where
-  refusal-why : (n : ℕ) → (o : Orders) → Stops s budget [] o → numberOf (o .answer) ≡ k → o .place ≡ at → Why s budget o → Refusal s budget k at
-  refusal-why n o g e p (whole w q) = absurd (some (sym e ∙ ap numberOf w))
+  refusal-why : (n : ℕ) → (o : Orders) → Stops s budget [] o → fileNumber (o .answer) ≡ k → o .place ≡ at → Why s budget o → Refusal s budget k at
+  refusal-why n o g e p (whole w q) = absurd (some (sym e ∙ ap fileNumber w))
   refusal-why n o g e p (spent w q l) =
       inr (
         o .calls,
         subst (λ (x : ℕ). Holds s x (o .calls)) p (g .held),
         g .most,
         subst (λ (x : ℕ). x < length s) p q,
-        ap (λ (b : Bool). cond b 13 (firstThat (orderLines s at))) (eq-eqb (length (o .calls)) budget l) ∙ sym (ap numberOf w) ∙ e,
+        ap (λ (b : Bool). cond b 13 (firstThat (orderLines s at))) (eq-eqb (length (o .calls)) budget l) ∙ sym (ap fileNumber w) ∙ e,
       )
   refusal-why n o g e p (fault a w q l f) =
       let ne : eqb (length (o .calls)) budget ≡ false = ne-eqb (length (o .calls)) budget (λ z. omega arith) in
-      let number : firstThat (orderLines s (o .place)) ≡ k = sym (order-number s (o .place) q) ∙ ap orderNumber f ∙ sym (ap numberOf w) ∙ e in
+      let number : firstThat (orderLines s (o .place)) ≡ k = sym (order-number s (o .place) q) ∙ ap orderNumber f ∙ sym (ap fileNumber w) ∙ e in
       inr (
         o .calls,
         subst (λ (x : ℕ). Holds s x (o .calls)) p (g .held),
@@ -274,25 +274,25 @@ module _ (s : List ℕ) (budget k at : ℕ) (some : k ≢ 0) where
         ap (λ (b : Bool). cond b 13 (firstThat (orderLines s at))) ne ∙ subst (λ (x : ℕ). firstThat (orderLines s x) ≡ k) p number,
       )
 
-  refusal-by : (h : Header) → headerOf s ≡ h → numberOf (replayOf s budget .answer) ≡ k → replayOf s budget .place ≡ at → Refusal s budget k at
+  refusal-by : (h : Header) → headerOf s ≡ h → fileNumber (replayOf s budget .answer) ≡ k → replayOf s budget .place ≡ at → Refusal s budget k at
   refusal-by (Header.Fault a) h e p =
       let r = refused-header s budget a h in
-      inl (sym p ∙ r .1, sym (header-number s) ∙ ap headerNumber h ∙ sym (ap numberOf (r .0)) ∙ e)
+      inl (sym p ∙ r .1, sym (header-number s) ∙ ap headerNumber h ∙ sym (ap fileNumber (r .0)) ∙ e)
   refusal-by (Header.Of n) h e p =
       let r = read-header s budget n h in
       let g = file-stops s budget n h in
-      refusal-why n (ordersFrom budget s 3) g (sym (ap numberOf (r .0)) ∙ e) (sym (r .1) ∙ p) (g .why)
+      refusal-why n (ordersFrom budget s 3) g (sym (ap fileNumber (r .0)) ∙ e) (sym (r .1) ∙ p) (g .why)
 
   -- the other way
   Answers : Type 0
-  Answers = (numberOf (replayOf s budget .answer) ≡ k) × (replayOf s budget .place ≡ at)
+  Answers = (fileNumber (replayOf s budget .answer) ≡ k) × (replayOf s budget .place ≡ at)
 
-  answers : (a : FileAnswer) (cs : List Call) → Comes s budget at cs → ordersFrom (budget - length cs) s at ≡ ended a at → numberOf a ≡ k → Answers
+  answers : (a : FileAnswer) (cs : List Call) → Comes s budget at cs → ordersFrom (budget - length cs) s at ≡ ended a at → fileNumber a ≡ k → Answers
   unfolding Answers after
   answers a cs c e z =
       let r = read-header s budget (c .header .0) (c .header .1) in
       let o : ordersFrom budget s 3 ≡ after cs (ended a at) = c .same ∙ ap (after cs) e in
-      (ap numberOf (r .0 ∙ ap (λ (x : Orders). x .answer) o) ∙ z, r .1 ∙ ap (λ (x : Orders). x .place) o)
+      (ap fileNumber (r .0 ∙ ap (λ (x : Orders). x .answer) o) ∙ z, r .1 ∙ ap (λ (x : Orders). x .place) o)
 
   order-answers : (cs : List Call) → Comes s budget at cs → length cs < budget → (o : Order) → orderAt s at ≡ o → orderNumber o ≡ k → Answers
   order-answers cs c l Order.End e z = absurd (some (sym z))
@@ -311,11 +311,11 @@ module _ (s : List ℕ) (budget k at : ℕ) (some : k ≢ 0) where
       order-answers cs (comes budget h l) less (orderAt s at) refl (order-number s at in-file ∙ z)
 
 header-answers : (s : List ℕ) (budget k : ℕ) → k ≢ 0 → (h : Header) → headerOf s ≡ h → headerNumber h ≡ k
-    → (numberOf (replayOf s budget .answer) ≡ k) × (replayOf s budget .place ≡ 0)
+    → (fileNumber (replayOf s budget .answer) ≡ k) × (replayOf s budget .place ≡ 0)
 header-answers s budget k n (Header.Of m) e f = absurd (n (sym f))
-header-answers s budget k n (Header.Fault a) e f = let r = refused-header s budget a e in (ap numberOf (r .0) ∙ f, r .1)
+header-answers s budget k n (Header.Fault a) e f = let r = refused-header s budget a e in (ap fileNumber (r .0) ∙ f, r .1)
 
-refused-at : (s : List ℕ) (budget k at : ℕ) → k ≢ 0 → Refusal s budget k at → (numberOf (replayOf s budget .answer) ≡ k) × (replayOf s budget .place ≡ at)
+refused-at : (s : List ℕ) (budget k at : ℕ) → k ≢ 0 → Refusal s budget k at → (fileNumber (replayOf s budget .answer) ≡ k) × (replayOf s budget .place ≡ at)
 unfolding Answers
 refused-at s budget k at n =
     ⊎-elim
@@ -326,32 +326,32 @@ pub refused-exactly : RefusedExactly
 refused-exactly s budget k at n = (λ p. refusal-by s budget k at n (headerOf s) refl (p .0) (p .1), refused-at s budget k at n)
 
 -- And 0.
-whole-why : (s : List ℕ) (k : ℕ) (o : Orders) → Why s k o → numberOf (o .answer) ≡ 0 → o .place ≡ length s
+whole-why : (s : List ℕ) (k : ℕ) (o : Orders) → Why s k o → fileNumber (o .answer) ≡ 0 → o .place ≡ length s
 whole-why s k o (whole w q) z = q
-whole-why s k o (spent w q l) z = absurd (omega (arith, ap numberOf w))
-whole-why s k o (fault a w q l f) z = absurd (told s (o .place) (Order.Fault a) q f (ap numberOf (sym w) ∙ z))
+whole-why s k o (spent w q l) z = absurd (omega (arith, ap fileNumber w))
+whole-why s k o (fault a w q l f) z = absurd (told s (o .place) (Order.Fault a) q f (ap fileNumber (sym w) ∙ z))
 
 -- a file whose header is read
-read-zero : (s : List ℕ) (budget : ℕ) → numberOf (replayOf s budget .answer) ≡ 0 → (h : Header) → headerOf s ≡ h → (n : ℕ) × (headerOf s ≡ Header.Of n)
+read-zero : (s : List ℕ) (budget : ℕ) → fileNumber (replayOf s budget .answer) ≡ 0 → (h : Header) → headerOf s ≡ h → (n : ℕ) × (headerOf s ≡ Header.Of n)
 read-zero s budget z (Header.Of n) e = (n, e)
-read-zero s budget z (Header.Fault a) e = absurd (header-refused s a e (sym (ap numberOf (refused-header s budget a e .0)) ∙ z))
+read-zero s budget z (Header.Fault a) e = absurd (header-refused s a e (sym (ap fileNumber (refused-header s budget a e .0)) ∙ z))
 
-pub zero-read : (s : List ℕ) (budget : ℕ) → numberOf (replayOf s budget .answer) ≡ 0 → (n : ℕ) × (headerOf s ≡ Header.Of n)
+pub zero-read : (s : List ℕ) (budget : ℕ) → fileNumber (replayOf s budget .answer) ≡ 0 → (n : ℕ) × (headerOf s ≡ Header.Of n)
 zero-read s budget z = read-zero s budget z (headerOf s) refl
 
 pub whole-place : WholePlace
 whole-place s budget z =
     let h = zero-read s budget z in
     let r = read-header s budget (h .0) (h .1) in
-    r .1 ∙ whole-why s budget (ordersFrom budget s 3) (file-stops s budget (h .0) (h .1) .why) (ap numberOf (sym (r .0)) ∙ z)
+    r .1 ∙ whole-why s budget (ordersFrom budget s 3) (file-stops s budget (h .0) (h .1) .why) (ap fileNumber (sym (r .0)) ∙ z)
 
 ends-with : (s : List ℕ) (budget : ℕ) (cs : List Call) → Comes s budget (length s) cs
-    → (numberOf (replayOf s budget .answer) ≡ 0) × (callsOf s budget ≡ cs)
+    → (fileNumber (replayOf s budget .answer) ≡ 0) × (callsOf s budget ≡ cs)
 unfolding after
 ends-with s budget cs c =
     let r = read-header s budget (c .header .0) (c .header .1) in
     let o : ordersFrom budget s 3 ≡ after cs (ended Whole (length s)) = c .same ∙ ap (after cs) (from-end (budget - length cs) s (length s) (omega arith)) in
-    (ap numberOf (r .0 ∙ ap (λ (x : Orders). x .answer) o), r .2 ∙ ap (λ (x : Orders). x .calls) o ∙ append-nil cs)
+    (ap fileNumber (r .0 ∙ ap (λ (x : Orders). x .answer) o), r .2 ∙ ap (λ (x : Orders). x .calls) o ∙ append-nil cs)
 
 pub whole-exactly : WholeExactly
 whole-exactly s budget cs = (

@@ -13,7 +13,7 @@ use Rattle.rules.specs.State.{nobody}
 use Rattle.rules.specs.Calls.{fresh}
 use Rattle.history.specs.Runs.{Call, enters, steps, crashes, runs}
 use Rattle.history.specs.Examples.{printed}
-use Rattle.formats.specs.Numbers.{numberOf}
+use Rattle.formats.specs.Numbers.{fileNumber}
 use Rattle.formats.specs.Examples.{MN}
 use Rattle.replays.specs.Replays.{replayOf, callsOf, processesOf}
 use Rattle.replays.specs.OrderFile.{orderFile}
@@ -31,7 +31,7 @@ CR p = ascii "CR" ++ p ∷ []
 
 -- "Line 1: `run`, number, place, orders taken, accesses, orders refused"
 pub record RunLine (s : List ℕ) (budget number place taken accesses refused : ℕ) : Type 0 where
-  pub number-is : numberOf (replayOf s budget .answer) ≡ number
+  pub number-is : fileNumber (replayOf s budget .answer) ≡ number
   pub place-is : replayOf s budget .place ≡ place
   pub taken-is : replayOf s budget .taken ≡ taken
   pub accesses-is : replayOf s budget .accesses ≡ accesses
@@ -47,7 +47,7 @@ pub record Printed : Type 0 where
   pub state : replayOf printedFile 65535 .machine ≡ runs 2 printed
   -- a budget of as many orders is enough, one less is not
   pub enough : RunLine printedFile 12 0 47 12 9 1
-  pub short-number : numberOf (replayOf printedFile 11 .answer) ≡ 13
+  pub short-number : fileNumber (replayOf printedFile 11 .answer) ≡ 13
   pub short-place : replayOf printedFile 11 .place ≡ 44
   pub short-taken : replayOf printedFile 11 .taken ≡ 11
 

@@ -19,7 +19,7 @@ use Rattle.history.specs.Runs.{Call, runs, acceptedSteps, allSteps, refusedCall
 use Rattle.history.specs.Views.{Has, View}
 use Rattle.history.specs.Theorems.{OfEveryRun, NeitherOneNorSeven, total}
 use Rattle.formats.specs.declared.FileAnswer.the-variants.{Whole}
-use Rattle.formats.specs.Numbers.{numberOf}
+use Rattle.formats.specs.Numbers.{fileNumber}
 use Rattle.formats.specs.Records.{byteAt}
 use Rattle.formats.specs.Table.{headerLines}
 use Rattle.formats.specs.Views.{owns, seenBy, valueBy}
@@ -75,11 +75,11 @@ EveryFileOfCalls = (s : List ℕ) → Bytes s → (budget : ℕ) → firstThat (
 
 -- So a file that is read whole is the file of its calls, byte for byte.
 abbrev pub WholeFileOfCalls : Type 0
-WholeFileOfCalls = (s : List ℕ) → Bytes s → (budget : ℕ) → numberOf (replayOf s budget .answer) ≡ 0 → s ≡ orderFile (processesOf s) (callsOf s budget)
+WholeFileOfCalls = (s : List ℕ) → Bytes s → (budget : ℕ) → fileNumber (replayOf s budget .answer) ≡ 0 → s ≡ orderFile (processesOf s) (callsOf s budget)
 
 -- "After a refused header the state is a fresh machine of one process and the three counts are 0", at every budget: "its own faults come before 13".
 pub record NoneTaken (k : ℕ) (r : Replayed) : Type 0 where
-  pub number : numberOf (r .answer) ≡ k
+  pub number : fileNumber (r .answer) ≡ k
   pub place : r .place ≡ 0
   pub taken : r .taken ≡ 0
   pub accesses : r .accesses ≡ 0

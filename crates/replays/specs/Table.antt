@@ -9,7 +9,7 @@ use mathlib.Core.List.{List, [], _∷_, _++_}
 use lib.Dec.{ltb, eqb}
 use lib.ListN.{length}
 use Rattle.history.specs.Runs.{Call, enters, steps, crashes}
-use Rattle.formats.specs.Numbers.{numberOf}
+use Rattle.formats.specs.Numbers.{fileNumber}
 use Rattle.formats.specs.Records.{byteAt, wordAt, reads}
 use Rattle.sets.specs.Lines.{Line, when, firstThat}
 use Rattle.formats.specs.Table.{headerLines}
@@ -58,13 +58,13 @@ Refusal s budget k at =
 -- each number is given, with its place, exactly when it applies there
 abbrev pub RefusedExactly : Type 0
 RefusedExactly = (s : List ℕ) (budget k at : ℕ) → k ≢ 0
-    → ((numberOf (replayOf s budget .answer) ≡ k) × (replayOf s budget .place ≡ at)) ↔ Refusal s budget k at
+    → ((fileNumber (replayOf s budget .answer) ≡ k) × (replayOf s budget .place ≡ at)) ↔ Refusal s budget k at
 
 -- and 0 exactly when the records up to the file's end hold calls within the budget: they are then the calls made
 abbrev pub WholeExactly : Type 0
 WholeExactly = (s : List ℕ) (budget : ℕ) (cs : List Call)
-    → ((numberOf (replayOf s budget .answer) ≡ 0) × (callsOf s budget ≡ cs)) ↔ (Holds s (length s) cs × (length cs ≤ budget))
+    → ((fileNumber (replayOf s budget .answer) ≡ 0) × (callsOf s budget ≡ cs)) ↔ (Holds s (length s) cs × (length cs ≤ budget))
 
 -- "or the file's length when all was read"
 abbrev pub WholePlace : Type 0
-WholePlace = (s : List ℕ) (budget : ℕ) → numberOf (replayOf s budget .answer) ≡ 0 → replayOf s budget .place ≡ length s
+WholePlace = (s : List ℕ) (budget : ℕ) → fileNumber (replayOf s budget .answer) ≡ 0 → replayOf s budget .place ≡ length s

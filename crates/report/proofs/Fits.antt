@@ -16,7 +16,7 @@ use Rattle.rules.specs.State.{stageOf, entered}
 use Rattle.formats.specs.declared.FileAnswer.{FileAnswer}
 use Rattle.formats.specs.declared.FileAnswer.the-variants.{Whole, OutOfRange, NotHeader, OtherMark, MarkCut, BodyCut, HeaderAgain}
 use Rattle.formats.specs.declared.FileAnswer.the-variants.{BudgetSpent, NoProcess, SecondView, NamesAbove}
-use Rattle.formats.specs.Numbers.{numberOf}
+use Rattle.formats.specs.Numbers.{fileNumber}
 use Rattle.replays.specs.declared.Replayed.{Replayed}
 use Rattle.findings.specs.declared.FileVerdict.{FileVerdict}
 use Rattle.text.specs.Decimal.{decimal}
@@ -125,7 +125,7 @@ sight-length i s h x k f =
     (part (stage-length (s .standing))
     (part (word-field (s .level) x) (part (word-field (s .accesses) k) (part (view-length (s .standing) (s .view) (s .values) f) end))))))
 
-number-small : (a : FileAnswer) → numberOf a < 2 ^ 32
+number-small : (a : FileAnswer) → fileNumber a < 2 ^ 32
 number-small Whole = omega arith
 number-small OutOfRange = omega arith
 number-small NotHeader = omega arith
@@ -142,8 +142,8 @@ pub run-length : (r : Replayed) → r .place < 2 ^ 64 → r .taken < 2 ^ 32 → 
 unfolding runLine
 run-length r a b c d =
     let word : length run ≤ 3 = omega arith in
-    words-length run (numberOf (r .answer) ∷ r .place ∷ r .taken ∷ r .accesses ∷ r .refused ∷ []) word
-    (next (word-field (numberOf (r .answer)) (number-small (r .answer)))
+    words-length run (fileNumber (r .answer) ∷ r .place ∷ r .taken ∷ r .accesses ∷ r .refused ∷ []) word
+    (next (word-field (fileNumber (r .answer)) (number-small (r .answer)))
     (next (wide-field (r .place) a) (next (word-field (r .taken) b) (next (word-field (r .accesses) c) (next (word-field (r .refused) d) none)))))
 
 pub last-length : (m : Machine) → m .n ≤ 32 → length (lastLine m) ≤ 16
