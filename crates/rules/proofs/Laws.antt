@@ -12,7 +12,6 @@ pub mod Effects
 pub mod Accesses
 pub mod Reads
 pub mod Level
-pub mod Alone
 pub mod Finishing
 pub mod Table
 pub mod Looks

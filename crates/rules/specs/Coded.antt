@@ -1,2 +1,2 @@
 -- What the code computes on its way; a reader of the claim need not read it.
-pub mod Alone
+pub mod Level

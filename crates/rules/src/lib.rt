@@ -57,9 +57,3 @@ pub struct Sight {
     pub view: u32,
     pub values: [u32; 32],
 }
-
-// Where the recursion ends: finished at a level with a view, or at level 1 with a count other than 1.
-pub enum Landing {
-    Lands { level: u32, view: u32 },
-    Stuck,
-}

@@ -1,24 +1,45 @@
--- `finish` meets its contract: refused as what was found says; a running process descends as the recursion does, and `alone-is-finishing` says that this is what
--- its single steps come to.
-use mathlib.Core.Path.{_≡_, refl, sym, ap, ap₂, subst, _∙_}
-use Prim.Native.Nat.{ℕ, _+_, _-_}
+-- `finish` meets its contract: refused as what was found says; a running process descends, and `descends` says that this is what its single steps
+-- come to.
+use mathlib.Core.Path.{_≡_, refl, sym, ap, _∙_}
+use Prim.Native.Nat.{ℕ}
 use native.Mathlib.Omega.{arith}
 use Rattle.rules.specs.declared.Stage.{Stage}
-use Rattle.rules.specs.declared.Stage.the-variants.{Finished}
-use Rattle.rules.specs.declared.Machine.{Machine}
-use Rattle.rules.specs.declared.Called.{Called}
-use Rattle.rules.specs.declared.Landing.the-variants.{Lands}
-use Rattle.rules.specs.State.{stageOf, rowOf, withProcess}
+use Rattle.rules.specs.State.{stageOf, withProcess}
 use Rattle.rules.specs.Calls.{done, finishAt, finishOf}
-use Rattle.rules.specs.Coded.Alone.{landing, filledDown, topRow, landed, aloneAt, aloneOf}
 use Rattle.rules.proofs.Laws.Did.{goes-on}
-use Rattle.rules.proofs.Laws.Alone.{alone-is-finishing}
 use Rattle.rules.proofs.Typed.{machine-held}
 use Rattle.moves.proofs.Laws.{refused-mover, Runs, runs, running-low, place, at-most-32}
-use Rattle.alone.proofs.Descent.{Reachable, ends-within, top-range}
+use Rattle.alone.specs.declared.Landing.the-variants.{Lands}
+use Rattle.alone.specs.Coded.Descent.{Registers, registersOf, withRegisters, Descent, descent}
+use Rattle.alone.proofs.Descent.{finishedAt, landed, descends}
 use borrow.Author.Needs.{needs}
 use Rattle.alone.proofs.finish.Statement.{statement}
 use Rattle.alone.proofs.finish.Tie as tie
+
+-- process p as it runs
+at : (c : tie.After-known-told2)
+    → Runs (c .before .before .before .before .before .before .before .before .args .t1) (c .before .before .before .before .before .before .before .before .args .p) (c .before .level .given .0 .0) (c .before .level .given .0 .1 .0)
+    (c .before .level .given .0 .1 .1 .0) (c .before .level .given .0 .1 .1 .1 .0)
+at c = runs _ _ _ _ _ _ (sym (c .before .before .before .find-running .ensures) ∙ c .before .level .given .1)
+
+-- where the recursion ends, as the code calls it
+abbrev ending : tie.After-known-told2 → Descent
+ending c =
+    let g = c .before .level .given .0 in
+    descent (g .0) (registersOf (c .before .before .before .before .before .before .before .before .args .t1)) (c .before .before .before .before .before .before .before .before .args .p) (g .1 .1 .1 .0) (g .1 .0) (g .1 .1 .0)
+
+-- what the definition says of it
+alone-runs : (c : tie.After-known-told2)
+    → finishOf (c .before .before .before .before .before .before .before .before .args .t1) (c .before .before .before .before .before .before .before .before .args .p) ≡ landed (c .before .before .before .before .before .before .before .before .args .t1) (c .before .before .before .before .before .before .before .before .args .p) (ending c .registers) (ending c .landing)
+unfolding finishOf
+alone-runs c =
+    let a = c .before .before .before .before .before .before .before .before .args in
+    let g = c .before .level .given .0 in
+    let r = at c in
+    goes-on (a .t1) (a .p) (r .valid) (finishAt (stageOf (a .t1) (a .p)) (a .t1) (a .p)) ∙ ap (λ (s : Stage). finishAt s (a .t1) (a .p)) (r .stage)
+    ∙ descends (a .t1) (machine-held (a .t1) (c .before .before .before .before .before .before .before .before .good .0)) (a .p) (r .valid) (g .0) (g .1 .0) (g .1 .1 .0) (r .stage)
+    ∙ ap (λ (v : ℕ). landed (a .t1) (a .p) (descent (g .0) (registersOf (a .t1)) (a .p) v (g .1 .0) (g .1 .1 .0) .registers)
+    (descent (g .0) (registersOf (a .t1)) (a .p) v (g .1 .0) (g .1 .1 .0) .landing)) (r .value)
 
 find-running-requires : tie.Need-find-running-requires
 find-running-requires c κs = search needs
@@ -29,53 +50,23 @@ enum-known-a c = search needs
 enum-known-level : tie.Need-enum-known-level
 enum-known-level c = search needs
 
--- process p as it runs
-at : (c : tie.After-known-told2) → Runs (c .before .before .before .before .before .before .before .before .args .t1) (c .before .before .before .before .before .before .before .before .args .p) (c .before .level .given .0 .0) (c .before .level .given .0 .1 .0)
-    (c .before .level .given .0 .1 .1 .0) (c .before .level .given .0 .1 .1 .1 .0)
-at c = runs _ _ _ _ _ _ (sym (c .before .before .before .find-running .ensures) ∙ c .before .level .given .1)
-
--- what the definition says of it
-alone-runs : (c : tie.After-known-told2)
-    → finishOf (c .before .before .before .before .before .before .before .before .args .t1) (c .before .before .before .before .before .before .before .before .args .p)
-    ≡ landed (c .before .before .before .before .before .before .before .before .args .t1) (c .before .before .before .before .before .before .before .before .args .p) (topRow (c .before .level .given .0 .0) (c .before .level .given .0 .1 .0))
-    (landing (rowOf (c .before .before .before .before .before .before .before .before .args .t1)) (c .before .before .before .before .before .before .before .before .args .p) (c .before .level .given .0 .0) (c .before .level .given .0 .1 .0) (c .before .level .given .0 .1 .1 .0))
-unfolding aloneOf
-alone-runs c =
-    let a = c .before .before .before .before .before .before .before .before .args in
-    let r = at c in
-    alone-is-finishing (a .t1) (machine-held (a .t1) (c .before .before .before .before .before .before .before .before .good .0)) (a .p)
-    ∙ goes-on (a .t1) (a .p) (r .valid) (aloneAt (stageOf (a .t1) (a .p)) (a .t1) (a .p)) ∙ ap (λ (s : Stage). aloneAt s (a .t1) (a .p)) (r .stage)
-
 descend-requires : tie.Need-descend-requires
-descend-requires c κs = running-low _ _ _ _ _ _ (at (c .before .before)) .1
+descend-requires c κs =
+    let r = at (c .before .before .before .before) in
+    let a = c .before .before .before .before .before .before .before .before .before .before .before .before .args in
+    (running-low _ _ _ _ _ _ r .1, r .valid .low, omega (arith, r .valid .high, at-most-32 (a .t1) (a .p) (r .valid)))
 
 enum-known-low : tie.Need-enum-known-low
 enum-known-low c = search needs
 
-top-row-requires : tie.Need-top-row-requires
-top-row-requires c κs = running-low _ _ _ _ _ _ (at (c .before .before .before .before .before .before)) .0
+sub-t28 : tie.Need-sub-t28
+sub-t28 c = at (c .before .before .before .before .before .before .before .before) .valid .low
 
-fill-down-requires : tie.Need-fill-down-requires
-fill-down-requires c κs =
-    let a = c .before .before .before .before .before .before .before .before .before .before .before .before .before .before .before .args in
-    let g = c .before .before .before .before .before .before .before .before .level .given .0 in
-    let v = at (c .before .before .before .before .before .before .before) in
-    let l = running-low _ _ _ _ _ _ v in
-    let w = c .before .before .low .given in
-    let r : Reachable (g .0) (Lands (w .0 .0) (w .0 .1 .0))
-    = subst (Reachable (g .0)) (sym (c .before .before .before .before .descend .ensures) ∙ w .1) (ends-within (rowOf (a .t1)) (a .p) (g .0) (g .1 .0) (g .1 .1 .0)) in
-    let t = top-range (g .0) (g .1 .0) (w .0 .0) (l .0) (l .1) (r .1) in
-    let e = c .top-row .ensures in
-    (v .valid .low, omega (arith, v .valid .high, at-most-32 (a .t1) (a .p) (v .valid)), r .0, omega (arith, t), omega (arith, t))
+cast-t29 : tie.Need-cast-t29
+cast-t29 c = search needs
 
-sub-t21 : tie.Need-sub-t21
-sub-t21 c = at (c .before .before .before .before .before .before .before .before) .valid .low
-
-cast-t24 : tie.Need-cast-t24
-cast-t24 c = search needs
-
-mul-t25 : tie.Need-mul-t25
-mul-t25 c = search needs
+mul-t30 : tie.Need-mul-t30
+mul-t30 c = search needs
 
 element-set-from-m : tie.Need-element-set-from-m
 element-set-from-m c = place (at (c .before .before .before .before .before .before .before .before) .valid)
@@ -93,20 +84,18 @@ returns c =
 returns-2 : tie.Need-returns-2
 returns-2 c =
     let a = c .before .before .before .before .before .before .before .before .before .before .before .before .before .before .before .before .args in
-    let m = a .t1 in
-    let g = c .before .before .before .before .before .before .before .before .before .level .given .0 in
-    let w = c .before .before .before .low .given in
+    let w = c .before .low .given in
+    let d = c .before .before .before .descend in
     let r = at (c .before .before .before .before .before .before .before .before) in
-    ap₂ {C = Called} (λ (M : Machine) (v : ℕ). done (withProcess M (a .p) (record { stage = Finished (w .0 .0) (w .0 .1 .0); value = v })))
-    (c .fill-down .ensures ∙ ap₂ (λ (t v : ℕ). filledDown (t + 1 - w .0 .0) t m (a .p) v) (c .before .top-row .ensures) (sym (r .value)))
-    (sym (r .value))
-    ∙ sym (alone-runs (c .before .before .before .before .before .before .before .before) ∙ ap (landed m (a .p) (topRow (g .0) (g .1 .0))) (sym (c .before .before .before .before .before .descend .ensures) ∙ w .1))
+    let q : Registers = record { filled = d .last .0; values = d .last .1 .0 } in
+    ap (λ (v : ℕ). done (withProcess (withRegisters (a .t1) q) (a .p) (finishedAt (w .0 .0) (w .0 .1 .0) v))) (sym (r .value))
+    ∙ ap (λ (q : Registers). landed (a .t1) (a .p) q (Lands (w .0 .0) (w .0 .1 .0))) (λ i. record { filled = d .ensures .1 .0 i; values = d .ensures .1 .1 i })
+    ∙ sym (alone-runs (c .before .before .before .before .before .before .before .before) ∙ ap (landed (a .t1) (a .p) (ending (c .before .before .before .before .before .before .before .before) .registers)) (sym (d .ensures .0) ∙ w .1))
 
 returns-3 : tie.Need-returns-3
 returns-3 c =
-    let a = c .before .before .before .before .before .before .before .before .before .before .before .before .before .args in
-    let g = c .before .before .before .before .before .before .level .given .0 in
-    sym (alone-runs (c .before .before .before .before .before) ∙ ap (landed (a .t1) (a .p) (topRow (g .0) (g .1 .0))) (sym (c .before .before .descend .ensures) ∙ c .enum-told .given .1))
+    let a = c .before .before .before .before .before .before .before .before .before .before .before .before .before .before .before .args in
+    sym (alone-runs (c .before .before .before .before .before .before .before) ∙ ap (landed (a .t1) (a .p) (ending (c .before .before .before .before .before .before .before) .registers)) (sym (c .before .before .descend .ensures .0) ∙ c .enum-told .given .1))
 
 pub finish-spec : {M : Type 1} → statement M
 finish-spec =
@@ -117,11 +106,9 @@ finish-spec =
     enum-known-level
     descend-requires
     enum-known-low
-    top-row-requires
-    fill-down-requires
-    sub-t21
-    cast-t24
-    mul-t25
+    sub-t28
+    cast-t29
+    mul-t30
     element-set-from-m
     enum-told
     returns

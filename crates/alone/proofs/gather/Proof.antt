@@ -1,19 +1,16 @@
--- `gather` meets its contract: with no access made the whole row and itself; later what was found and the registers from there on.
+-- `gather` meets its contract: before the write the whole row; later what was found and the registers from there on.
 use mathlib.Core.Path.{ap, _∙_}
 use lib.Bits.{bitOr}
 use borrow.Author.Tests.{eq-eqb}
-use Rattle.rules.specs.Coded.Alone.{gathered}
+use Rattle.rules.specs.Coded.Level.{gathered}
 use Rattle.alone.proofs.Descent.{gathered-later}
 use borrow.Author.Needs.{needs}
 use Rattle.alone.proofs.gather.Statement.{statement}
 use Rattle.alone.proofs.gather.Tie as tie
 
-plus-requires : tie.Need-plus-requires
-plus-requires c κs = search needs
-
 returns : tie.Need-returns
 unfolding gathered
-returns c = rw (eq-eqb _ _ (c .before .if1 .taken)) (c .plus .ensures)
+returns c = rw (eq-eqb _ _ (c .if1 .taken))
 
 upwards-requires : tie.Need-upwards-requires
 upwards-requires c κs = search needs
@@ -21,7 +18,7 @@ upwards-requires c κs = search needs
 returns-2 : tie.Need-returns-2
 returns-2 c =
     let a = c .before .before .args in
-    ap (bitOr (a .found)) (c .upwards .ensures) ∙ gathered-later (a .row) (a .p) (a .made) (a .found) (c .before .before .fits .found .fits) (c .before .if1 .left)
+    ap (bitOr (a .found)) (c .upwards .ensures) ∙ gathered-later (a .row) (a .made) (a .found) (c .before .before .fits .found .fits) (c .before .if1 .left)
 
 pub gather-spec : {M : Type 1} → statement M
-gather-spec = tie.close (tie.spec plus-requires returns upwards-requires returns-2)
+gather-spec = tie.close (tie.spec returns upwards-requires returns-2)

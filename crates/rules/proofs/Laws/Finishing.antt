@@ -16,7 +16,6 @@ use Rattle.rules.specs.declared.Answer.the-variants.{NotShaped, NoProces
 use Rattle.rules.specs.declared.Called.{Called}
 use Rattle.rules.specs.State.{stageOf, rowOf, entered, finished, crashed, accessesOf}
 use Rattle.rules.specs.Shape.{Held, shaped}
-use Rattle.rules.specs.Coded.Alone.{gathered}
 use Rattle.rules.specs.Calls.{numberOf, accepted, refused, crashOf, stepAt, stepOf, stepsOf, finishFrom, orAsAtEntry, finishAt, finishOf}
 use Rattle.rules.specs.Numbers.{crashLines}
 use Rattle.rules.specs.Statements.{Valid, Meets, none, FirstLine, Finishes, Sticks, ExactlyWhenAlone, FinishingAlone}
@@ -27,7 +26,7 @@ use Rattle.rules.proofs.Laws.Numbers.{first-given, given-first, none-fi
 use Rattle.rules.proofs.Laws.Steps.{steps-on, steps-off, steps-then}
 use Rattle.rules.proofs.Laws.Keeps.{every-state-meets}
 use Rattle.rules.proofs.Laws.Accesses.{accesses-of-calls}
-use Rattle.rules.proofs.Laws.Level.{Runs, going, ended-steps, ended-there, finishes-here, stuck-there, sticks-here, left, fell, left-runs, goes-below}
+use Rattle.rules.proofs.Laws.Level.{Runs, going, ended-steps, ended-there, finishes-here, stuck-there, sticks-here, left, fell, left-runs, goes-below, seen}
 
 -- the accepted steps are the accesses that they make
 pub steps-count : (k n : ℕ) (m : Machine) → Meets n m → (p : ℕ) → accepted (stepsOf k m p) ≡ true
@@ -87,7 +86,7 @@ record Ends (m : Machine) (p : ℕ) (c : Called) : Type 0 where
   equal : c ≡ stepsOf steps m p
   how : How p c
 
-finish-here : (x : ℕ) (m : Machine) (p k f : ℕ) → Runs m p (suc x) k f → size (gathered (rowOf m (suc x)) p k f) ≡ suc x
+finish-here : (x : ℕ) (m : Machine) (p k f : ℕ) → Runs m p (suc x) k f → size (seen m p (suc x) k f) ≡ suc x
     → Ends m p (finishFrom (suc x) m p)
 finish-here x m p k f r e =
     let here = finishes-here x m p k f r e in
@@ -102,9 +101,9 @@ from-ends zero m p k f r = absurd (nothing (going m p 0 k f r .low))
   where
     nothing : 1 ≤ 0 → ⊥
     nothing h = omega arith
-from-ends (suc zero) m p k f r = go (equal-or-not (size (gathered (rowOf m 1) p k f)) 1)
+from-ends (suc zero) m p k f r = go (equal-or-not (size (seen m p 1 k f)) 1)
   where
-    go : (size (gathered (rowOf m 1) p k f) ≡ 1) ⊎ (size (gathered (rowOf m 1) p k f) ≢ 1) → Ends m p (finishFrom 1 m p)
+    go : (size (seen m p 1 k f) ≡ 1) ⊎ (size (seen m p 1 k f) ≢ 1) → Ends m p (finishFrom 1 m p)
     go (inl e) = finish-here 0 m p k f r e
     go (inr ne) =
         record {
@@ -113,11 +112,11 @@ from-ends (suc zero) m p k f r = go (equal-or-not (size (gathered (rowOf m 1) p 
           how = inr (ap (λ c. c .answer) (sticks-here m p k f r ne) ∙ stuck-there m p k f r ne);
         }
 from-ends (suc (suc x)) m p k f r =
-    go (equal-or-not (size (gathered (rowOf m (suc (suc x))) p k f)) (suc (suc x)))
+    go (equal-or-not (size (seen m p (suc (suc x)) k f)) (suc (suc x)))
     (λ ne. from-ends (suc x) (left x m p k) p 0 0 (left-runs x m p k f r ne))
   where
-    go : (size (gathered (rowOf m (suc (suc x))) p k f) ≡ suc (suc x)) ⊎ (size (gathered (rowOf m (suc (suc x))) p k f) ≢ suc (suc x))
-        → (size (gathered (rowOf m (suc (suc x))) p k f) ≢ suc (suc x) → Ends (left x m p k) p (finishFrom (suc x) (left x m p k) p))
+    go : (size (seen m p (suc (suc x)) k f) ≡ suc (suc x)) ⊎ (size (seen m p (suc (suc x)) k f) ≢ suc (suc x))
+        → (size (seen m p (suc (suc x)) k f) ≢ suc (suc x) → Ends (left x m p k) p (finishFrom (suc x) (left x m p k) p))
         → Ends m p (finishFrom (suc (suc x)) m p)
     go (inl e) further = finish-here (suc x) m p k f r e
     go (inr ne) further =

@@ -19,7 +19,7 @@ use Rattle.rules.specs.declared.Called.{Called}
 use Rattle.rules.specs.State.{processOf, stageOf, valueOf, rowOf, finished, madeOf, foundOf, withProcess, withRegister}
 use Rattle.rules.specs.Shape.{Held, Going}
 use Rattle.rules.specs.Calls.{numberOf, done, reading, stepOf, ifAccepted, stepsOf, finishFrom}
-use Rattle.rules.specs.Coded.Alone.{gathered}
+use Rattle.rules.specs.Coded.Level.{gathered}
 use Rattle.rules.specs.Statements.{Meets, Valid}
 use Rattle.rules.proofs.Laws.Small.{or-true, or-left, or-right, both, and-first, and-second, not-both, cond-false, equal-or-not}
 use Rattle.rules.proofs.Laws.Small.{at-most-or-above}
@@ -81,14 +81,14 @@ readings-only row k (suc d) f i t = go (readings-only row (k + 1) d (reading row
     go (inr u) = let le : k ≤ i = omega (arith, u .0) in inr (le, u .1)
 
 -- The reads that are left, as one set: the row has no member above n.
-readings-gathered : (n row p k d f : ℕ) → 1 ≤ k → k + d ≡ n → f < 2 ^ 32 → ((i : ℕ) → has row i ≡ true → i ≤ n)
-    → readings row k d f ≡ gathered row p k f
+readings-gathered : (n row k d f : ℕ) → 1 ≤ k → k + d ≡ n → f < 2 ^ 32 → ((i : ℕ) → has row i ≡ true → i ≤ n)
+    → readings row k d f ≡ gathered row k f
 unfolding gathered
-readings-gathered n row p k d f lo sum b inside =
+readings-gathered n row k d f lo sum b inside =
     let nz : k ≢ 0 = omega arith in
     members-equal (readings row k d f) s (readings-below row k d f b) (setOf-below test 32)
     (λ i. same-truth (has (readings row k d f) i) (has s i) (there i) (back i))
-    ∙ sym (cond-false (eqb k 0) (plus row p) s (ne-eqb k 0 nz))
+    ∙ sym (cond-false (eqb k 0) row s (ne-eqb k 0 nz))
   where
     test : ℕ → Bool
     test i = has f i || (leb k i && has row i)
@@ -245,11 +245,15 @@ row-inside m p x k f r i t = go (at-most-or-above i (m .n))
 abbrev pub base : Machine → ℕ → ℕ → ℕ → Machine
 base m p x k = cond (eqb k 0) (withRegister m x p (valueOf m p)) m
 
+-- and what it has found there
+abbrev pub seen : Machine → ℕ → ℕ → ℕ → ℕ → ℕ
+seen m p x k f = gathered (rowOf (base m p x k) x) k f
+
 write-ends : (m : Machine) (p x f : ℕ) → Runs m p x 0 f
-    → LevelEnds (base m p x 0) (valueOf m p) p x (gathered (rowOf m x) p 0 f) (stepsOf (m .n + 1 - 0) m p)
+    → LevelEnds (base m p x 0) (valueOf m p) p x (seen m p x 0 f) (stepsOf (m .n + 1 - 0) m p)
 unfolding gathered
 write-ends m p x f r =
-    subst (λ k. LevelEnds filled (valueOf m p) p x (plus (rowOf m x) p) (stepsOf k m p)) count
+    subst (λ k. LevelEnds filled (valueOf m p) p x (rowOf filled x) (stepsOf k m p)) count
     (subst (λ w. LevelEnds filled (valueOf m p) p x w (stepsOf (suc (suc (m .n - 1))) m p)) whole
     (carry m filled held p (r .low) (p32 m p x 0 f r) P stepped x (readings (rowOf filled x) 1 (m .n - 1) f) (suc (m .n - 1))
     (reads-end (m .n - 1) (withProcess filled p P) p x 1 f r′ (lit≤ tt) sum)))
@@ -291,32 +295,30 @@ write-ends m p x f r =
     nothing : (i : ℕ) → i < 0 → ⊥
     nothing i b = omega arith
 
-    whole : readings (rowOf filled x) 1 (m .n - 1) f ≡ plus (rowOf m x) p
+    whole : readings (rowOf filled x) 1 (m .n - 1) f ≡ rowOf filled x
     whole =
-        ap (λ w. readings w 1 (m .n - 1) f) row
-        ∙ readings-whole (m .n) (plus (rowOf m x) p) (m .n - 1) f sum (plus-below (rowOf m x) p (r .meets .held .row x))
-        (subst (λ s. foundOf s < 2 ^ 32) (r .stage) (r .meets .held .found p))
-        (λ i t. inside i (has-plus-cases (rowOf m x) p i t)) (λ i t. nothing i (g .read i t))
+        readings-whole (m .n) (rowOf filled x) (m .n - 1) f sum (held .row x) (subst (λ s. foundOf s < 2 ^ 32) (r .stage) (r .meets .held .found p))
+        (λ i t. inside i (has-plus-cases (rowOf m x) p i (sym (ap (λ w. has w i) row) ∙ t))) (λ i t. nothing i (g .read i t))
 
 pub level-ends : (m : Machine) (p x k f : ℕ) → Runs m p x k f
-    → LevelEnds (base m p x k) (valueOf m p) p x (gathered (rowOf m x) p k f) (stepsOf (m .n + 1 - k) m p)
+    → LevelEnds (base m p x k) (valueOf m p) p x (seen m p x k f) (stepsOf (m .n + 1 - k) m p)
 level-ends m p x k f r = go (equal-or-not k 0)
   where
-    go : (k ≡ 0) ⊎ (k ≢ 0) → LevelEnds (base m p x k) (valueOf m p) p x (gathered (rowOf m x) p k f) (stepsOf (m .n + 1 - k) m p)
+    go : (k ≡ 0) ⊎ (k ≢ 0) → LevelEnds (base m p x k) (valueOf m p) p x (seen m p x k f) (stepsOf (m .n + 1 - k) m p)
     go (inl e) =
-        subst (λ j. LevelEnds (base m p x j) (valueOf m p) p x (gathered (rowOf m x) p j f) (stepsOf (m .n + 1 - j) m p)) (sym e)
+        subst (λ j. LevelEnds (base m p x j) (valueOf m p) p x (seen m p x j f) (stepsOf (m .n + 1 - j) m p)) (sym e)
         (write-ends m p x f (subst (λ j. Runs m p x j f) e r))
     go (inr nz) =
         let lo : 1 ≤ k = omega arith in
         let le : k ≤ m .n = going m p x k f r .accesses in
         let sum : k + (m .n - k) ≡ m .n = omega arith in
         let count : suc (m .n - k) ≡ m .n + 1 - k = omega arith in
-        let w : readings (rowOf m x) k (m .n - k) f ≡ gathered (rowOf m x) p k f =
-        readings-gathered (m .n) (rowOf m x) p k (m .n - k) f lo sum (subst (λ s. foundOf s < 2 ^ 32) (r .stage) (r .meets .held .found p))
+        let w : readings (rowOf m x) k (m .n - k) f ≡ gathered (rowOf m x) k f =
+        readings-gathered (m .n) (rowOf m x) k (m .n - k) f lo sum (subst (λ s. foundOf s < 2 ^ 32) (r .stage) (r .meets .held .found p))
         (row-inside m p x k f r) in
-        subst (λ b. LevelEnds b (valueOf m p) p x (gathered (rowOf m x) p k f) (stepsOf (m .n + 1 - k) m p))
+        subst (λ b. LevelEnds b (valueOf m p) p x (gathered (rowOf b x) k f) (stepsOf (m .n + 1 - k) m p))
         (sym (cond-false (eqb k 0) (withRegister m x p (valueOf m p)) m (ne-eqb k 0 nz)))
-        (subst (λ j. LevelEnds m (valueOf m p) p x (gathered (rowOf m x) p k f) (stepsOf j m p)) count
+        (subst (λ j. LevelEnds m (valueOf m p) p x (gathered (rowOf m x) k f) (stepsOf j m p)) count
         (subst (λ w. LevelEnds m (valueOf m p) p x w (stepsOf (suc (m .n - k)) m p)) w (reads-end (m .n - k) m p x k f r lo sum)))
 
 pub base-held : (m : Machine) (p x k : ℕ) → Held m → Held (base m p x k)
@@ -333,9 +335,9 @@ from-next x m p y k f e = ap (λ s. ifAccepted (stepsOf (m .n + 1 - madeOf (m .n
 
 -- The count is the level: the process has finished, and so has the recursion.
 abbrev pub ended : ℕ → Machine → ℕ → ℕ → ℕ → Process
-ended x m p k f = record { stage = Finished (suc x) (gathered (rowOf m (suc x)) p k f); value = valueOf m p }
+ended x m p k f = record { stage = Finished (suc x) (seen m p (suc x) k f); value = valueOf m p }
 
-module _ (x : ℕ) (m : Machine) (p k f : ℕ) (r : Runs m p (suc x) k f) (e : size (gathered (rowOf m (suc x)) p k f) ≡ suc x) where
+module _ (x : ℕ) (m : Machine) (p k f : ℕ) (r : Runs m p (suc x) k f) (e : size (seen m p (suc x) k f) ≡ suc x) where
   pub ended-steps : stepsOf (m .n + 1 - k) m p ≡ done (withProcess (base m p (suc x) k) p (ended x m p k f))
   ended-steps = level-ends m p (suc x) k f r .finish e
 
@@ -350,7 +352,7 @@ module _ (x : ℕ) (m : Machine) (p k f : ℕ) (r : Runs m p (suc x) k f) (e : s
       ∙ next-done x p (withProcess (base m p (suc x) k) p (ended x m p k f)) ended-there
 
 -- Another count at level 1: the last step is refused, and so is the recursion.
-module _ (m : Machine) (p k f : ℕ) (r : Runs m p 1 k f) (ne : size (gathered (rowOf m 1) p k f) ≢ 1) where
+module _ (m : Machine) (p k f : ℕ) (r : Runs m p 1 k f) (ne : size (seen m p 1 k f) ≢ 1) where
   pub stuck-there : stepsOf (m .n + 1 - k) m p .answer ≡ NoLevelBelow
   stuck-there = level-ends m p 1 k f r .stick ne refl
 
@@ -364,7 +366,7 @@ fallen x m p = record { stage = Running (suc x) 0 0; value = valueOf m p }
 abbrev pub left : ℕ → Machine → ℕ → ℕ → Machine
 left x m p k = withProcess (base m p (suc (suc x)) k) p (fallen x m p)
 
-module _ (x : ℕ) (m : Machine) (p k f : ℕ) (r : Runs m p (suc (suc x)) k f) (ne : size (gathered (rowOf m (suc (suc x))) p k f) ≢ suc (suc x)) where
+module _ (x : ℕ) (m : Machine) (p k f : ℕ) (r : Runs m p (suc (suc x)) k f) (ne : size (seen m p (suc (suc x)) k f) ≢ suc (suc x)) where
   pub fell : stepsOf (m .n + 1 - k) m p ≡ done (left x m p k)
   fell =
       let two : 2 ≤ suc (suc x) = omega arith in

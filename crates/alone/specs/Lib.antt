@@ -1,0 +1,2 @@
+-- What finishing alone computes on its way.
+pub mod Coded
