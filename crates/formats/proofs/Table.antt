@@ -173,7 +173,8 @@ number-chain false false false false false false false true p w = refl
 number-chain false false false false false false false false p w = refl
 
 -- over the table's lines, where n is the file's and `own` the processes of the records before
-pub record-number : (s : List ℕ) (at n own : ℕ) (before : List ℕ) → at < length s → n ≡ byteAt s 2 → has own (processAt s at) ≡ viewed s (processAt s at) before
+pub record-number : (s : List ℕ) (at n own : ℕ) (before : List ℕ) → at < length s → n ≡ byteAt s 2
+    → has own (processAt s at) ≡ viewed s (processAt s at) before
     → recordNumber (testedAt s at n own) ≡ firstThat (recordLines s at before)
 record-number s at n own before h e f =
     let p = processAt s at in

@@ -238,9 +238,9 @@ module _ (s : List ℕ) (budget : ℕ) where
     ap (callsBy s budget) e,
   )
 
-  pub refused-header : (a : FileAnswer) → headerOf s ≡ Header.Fault a → (replayOf s budget .answer ≡ a) × (replayOf s budget .place ≡ 0)
+  pub faulty-header : (a : FileAnswer) → headerOf s ≡ Header.Fault a → (replayOf s budget .answer ≡ a) × (replayOf s budget .place ≡ 0)
   unfolding replayOf
-  refused-header a e = (ap (λ (h : Header). replayBy s budget h .answer) e, ap (λ (h : Header). replayBy s budget h .place) e)
+  faulty-header a e = (ap (λ (h : Header). replayBy s budget h .answer) e, ap (λ (h : Header). replayBy s budget h .place) e)
 
 -- the calls made are those that the file holds up to the place
 pub held-calls : (s : List ℕ) (budget n : ℕ) → headerOf s ≡ Header.Of n → Holds s (replayOf s budget .place) (callsOf s budget)
@@ -276,7 +276,7 @@ module _ (s : List ℕ) (budget k at : ℕ) (some : k ≢ 0) where
 
   refusal-by : (h : Header) → headerOf s ≡ h → fileNumber (replayOf s budget .answer) ≡ k → replayOf s budget .place ≡ at → Refusal s budget k at
   refusal-by (Header.Fault a) h e p =
-      let r = refused-header s budget a h in
+      let r = faulty-header s budget a h in
       inl (sym p ∙ r .1, sym (header-number s) ∙ ap headerNumber h ∙ sym (ap fileNumber (r .0)) ∙ e)
   refusal-by (Header.Of n) h e p =
       let r = read-header s budget n h in
@@ -313,7 +313,7 @@ module _ (s : List ℕ) (budget k at : ℕ) (some : k ≢ 0) where
 header-answers : (s : List ℕ) (budget k : ℕ) → k ≢ 0 → (h : Header) → headerOf s ≡ h → headerNumber h ≡ k
     → (fileNumber (replayOf s budget .answer) ≡ k) × (replayOf s budget .place ≡ 0)
 header-answers s budget k n (Header.Of m) e f = absurd (n (sym f))
-header-answers s budget k n (Header.Fault a) e f = let r = refused-header s budget a e in (ap fileNumber (r .0) ∙ f, r .1)
+header-answers s budget k n (Header.Fault a) e f = let r = faulty-header s budget a e in (ap fileNumber (r .0) ∙ f, r .1)
 
 refused-at : (s : List ℕ) (budget k at : ℕ) → k ≢ 0 → Refusal s budget k at → (fileNumber (replayOf s budget .answer) ≡ k) × (replayOf s budget .place ≡ at)
 unfolding Answers
@@ -334,7 +334,7 @@ whole-why s k o (fault a w q l f) z = absurd (told s (o .place) (Order.Fault a) 
 -- a file whose header is read
 read-zero : (s : List ℕ) (budget : ℕ) → fileNumber (replayOf s budget .answer) ≡ 0 → (h : Header) → headerOf s ≡ h → (n : ℕ) × (headerOf s ≡ Header.Of n)
 read-zero s budget z (Header.Of n) e = (n, e)
-read-zero s budget z (Header.Fault a) e = absurd (header-refused s a e (sym (ap fileNumber (refused-header s budget a e .0)) ∙ z))
+read-zero s budget z (Header.Fault a) e = absurd (header-refused s a e (sym (ap fileNumber (faulty-header s budget a e .0)) ∙ z))
 
 pub zero-read : (s : List ℕ) (budget : ℕ) → fileNumber (replayOf s budget .answer) ≡ 0 → (n : ℕ) × (headerOf s ≡ Header.Of n)
 zero-read s budget z = read-zero s budget z (headerOf s) refl
