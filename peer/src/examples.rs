@@ -1,7 +1,8 @@
 //! The examples of document 01, on both sides, and the order in which a record is judged.
 
+use crate::calls::p8;
 use crate::listing::assemble;
-use crate::machine::{Machine, Process, Stand, View};
+use crate::machine::{Machine, View};
 use crate::make_orders::make_orders;
 use crate::orders::{replay, replay_program, BUDGET};
 use crate::views::{read_views, verdict_program, write_views};
@@ -104,25 +105,7 @@ fn p7_write_and_crash() {
 
 #[test]
 fn p8_seven() {
-    // Both at level 1, both written there; 1 has read register 1 and found it filled.
-    let mut machine = Machine::fresh(2);
-    for x in 1..=2 {
-        machine.rows[x][1] = Some(7);
-        machine.rows[x][2] = Some(9);
-    }
-    let found = View::from([(1, 7)]);
-    machine.processes[1] = Process::Running(Stand {
-        value: 7,
-        level: 1,
-        accesses: 2,
-        found,
-    });
-    machine.processes[2] = Process::Running(Stand {
-        value: 9,
-        level: 1,
-        accesses: 1,
-        found: View::new(),
-    });
+    let mut machine = p8();
     assert!(machine.well_shaped());
     let before = machine.clone();
     assert_eq!(machine.step(1), 7);

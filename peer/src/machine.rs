@@ -179,8 +179,7 @@ impl Machine {
         }
     }
 
-    /// Rule 8: steps of process p until it finishes. No order asks for it; the tests do.
-    #[cfg(test)]
+    /// Rule 8: steps of process p until it finishes. No order asks for it; scripts of calls do.
     pub fn finish_alone(&mut self, p: usize) -> u32 {
         let at_entry = self.clone();
         loop {

@@ -3,19 +3,23 @@
 //!     peer replay            order file in, the replay program's print out
 //!     peer verdict           view file in, the verdict program's print out
 //!     peer views             order file in, view file of the state after its replay out
-//!     peer make KIND SEED    a random file out; KIND is `orders` or `views`, SEED a decimal number
+//!     peer probe             probe in (probes.rs), what it prints out
+//!     peer trial             script of calls in (calls.rs), what they answer out
+//!     peer make KIND SEED    a random file out; KIND is `orders`, `views`, `probes` or `calls`, SEED a decimal number
 //!     peer assemble          listing in, file out
 //!     peer list              file in, listing out
 //!
-//! Exit status: 0 done; 1 a bad line, an order file too long for `views`, or a failed read or write; 2 a
-//! command that is none of these. With 1 and 2 nothing is written on standard output.
+//! Exit status: 0 done; 1 a bad line, an input too long for `views`, `probe` or `trial`, or a failed read or write;
+//! 2 a command that is none of these. With 1 and 2 nothing is written on standard output.
 
+mod calls;
 mod files;
 mod listing;
 mod machine;
 mod make_orders;
 mod make_views;
 mod orders;
+mod probes;
 mod random;
 mod views;
 
@@ -31,12 +35,20 @@ fn main() -> ExitCode {
     let output = match words.as_slice() {
         ["replay"] => input().map(|file| orders::replay_program(&file).into_bytes()),
         ["verdict"] => input().map(|file| views::verdict_program(&file).into_bytes()),
-        ["views"] => input().and_then(|file| views_program(&file)),
+        ["views"] => input().and_then(views_program),
+        ["probe"] => input()
+            .and_then(|probe| within(probe, probes::MOST_PROBE))
+            .map(|probe| probes::probe_program(&probe)),
+        ["trial"] => input()
+            .and_then(|script| within(script, calls::MOST_SCRIPT))
+            .map(|script| calls::trial_program(&script).into_bytes()),
         ["assemble"] => input().and_then(|text| assemble_program(&text)),
         ["list"] => input().map(|file| listing::list(&file).into_bytes()),
         ["make", kind, seed] => match (*kind, seed.parse::<u64>()) {
             ("orders", Ok(seed)) => Ok(make_orders::make_orders(seed)),
             ("views", Ok(seed)) => Ok(make_views::make_views(seed)),
+            ("probes", Ok(seed)) => Ok(probes::make_probe(seed)),
+            ("calls", Ok(seed)) => Ok(calls::make_calls(seed)),
             _ => return usage(),
         },
         _ => return usage(),
@@ -51,7 +63,10 @@ fn main() -> ExitCode {
 }
 
 fn usage() -> ExitCode {
-    eprintln!("usage: peer replay | verdict | views | make orders SEED | make views SEED | assemble | list");
+    eprintln!(
+        "usage: peer replay | verdict | views | probe | trial | make KIND SEED | assemble | list"
+    );
+    eprintln!("KIND is orders, views, probes or calls");
     ExitCode::from(2)
 }
 
@@ -70,13 +85,18 @@ fn print(bytes: &[u8]) -> Result<(), String> {
         .map_err(|fault| fault.to_string())
 }
 
-fn views_program(file: &[u8]) -> Result<Vec<u8>, String> {
-    if file.len() > files::MOST_BYTES {
+/// The bytes, if there are no more than `most`.
+fn within(bytes: Vec<u8>, most: usize) -> Result<Vec<u8>, String> {
+    if bytes.len() > most {
         return Err("too long".to_string());
     }
-    Ok(views::write_views(
-        &orders::replay(file, orders::BUDGET).machine,
-    ))
+    Ok(bytes)
+}
+
+fn views_program(file: Vec<u8>) -> Result<Vec<u8>, String> {
+    let file = within(file, files::MOST_BYTES)?;
+    let run = orders::replay(&file, orders::BUDGET);
+    Ok(views::write_views(&run.machine))
 }
 
 fn assemble_program(text: &[u8]) -> Result<Vec<u8>, String> {

@@ -134,20 +134,25 @@ pub fn replay(file: &[u8], budget: usize) -> Run {
     run
 }
 
+/// Line 1 of the replay program.
+pub fn run_line(run: &Run) -> String {
+    format!(
+        "run {} {} {} {} {}\n",
+        run.number, run.place, run.taken, run.accesses, run.refused
+    )
+}
+
 /// What the replay program prints for a file.
 pub fn replay_program(file: &[u8]) -> String {
     if file.len() > MOST_BYTES {
         return "too long\n".to_string();
     }
     let run = replay(file, BUDGET);
-    let mut text = format!(
-        "run {} {} {} {} {}\n",
-        run.number, run.place, run.taken, run.accesses, run.refused
-    );
+    let mut text = run_line(&run);
     for p in 1..=run.machine.n {
         let (_, look) = run.machine.look(p);
         let view = match &look.view {
-            Some(view) => pairs(view),
+            Some(view) => pairs(view).join(","),
             None => "-".to_string(),
         };
         text += &format!(
@@ -159,10 +164,9 @@ pub fn replay_program(file: &[u8]) -> String {
     text
 }
 
-/// process:value pairs, ascending, split by commas.
-fn pairs(view: &View) -> String {
+/// process:value pairs, ascending.
+pub fn pairs(view: &View) -> Vec<String> {
     view.iter()
         .map(|(p, value)| format!("{p}:{value}"))
-        .collect::<Vec<_>>()
-        .join(",")
+        .collect()
 }

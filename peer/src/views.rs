@@ -46,6 +46,19 @@ pub fn write_views(machine: &Machine) -> Vec<u8> {
     file
 }
 
+/// The view writer on a lent buffer: the number and the bytes written.
+pub fn write_into(machine: &Machine, buffer: &mut [u8]) -> (u32, usize) {
+    if !machine.well_shaped() {
+        return (1, 0);
+    }
+    let file = write_views(machine);
+    if buffer.len() < file.len() {
+        return (17, 0);
+    }
+    buffer[..file.len()].copy_from_slice(&file);
+    (0, file.len())
+}
+
 /// What the reader answers.
 #[derive(Clone, Debug, PartialEq, Eq)]
 pub struct Reading {

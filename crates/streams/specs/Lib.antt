@@ -1,0 +1,2 @@
+-- What a call that moves bytes came to.
+pub mod Outcomes
