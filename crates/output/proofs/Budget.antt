@@ -22,7 +22,7 @@ use Rattle.replays.proofs.Turns.{width, whole-order}
 use Rattle.text.specs.Ascii.{ascii}
 use Rattle.text.specs.Decimal.{digitsIn, decimal, Digits}
 use Rattle.text.specs.Parts.{joined}
-use Rattle.text.proofs.Decimal.{decimal-writes, decimal-tells}
+use Rattle.text.proofs.Decimal.{decimal-is-numeral, decimal-tells}
 use Rattle.output.specs.Lines.{fields, processLine, runLine, lastLine, replayLines}
 use Rattle.output.specs.Promises.{FewOrders, NeverThirteen}
 use Rattle.output.proofs.ByLength.{replay-short, replay-long}
@@ -129,7 +129,7 @@ first-number r n rest e =
     let others = decimal (r .place) ++ fields (r .taken ∷ r .accesses ∷ r .refused ∷ []) in
     let after = joined 1 (r .machine .n) (processLine (r .machine)) ++ lastLine (r .machine) in
     decimal-tells (numberOf (r .answer)) n
-    (up-to-space d (decimal n) (others ++ 10 ∷ after) rest (decimal-writes (numberOf (r .answer)) .digits) (decimal-writes n .digits)
+    (up-to-space d (decimal n) (others ++ 10 ∷ after) rest (decimal-is-numeral (numberOf (r .answer)) .digits) (decimal-is-numeral n .digits)
     (sym (append-assoc (d ++ 32 ∷ others) (10 ∷ []) after ∙ append-assoc d (32 ∷ others) (10 ∷ after)) ∙ ap (drop 4) e))
 
 pub never-thirteen : NeverThirteen
