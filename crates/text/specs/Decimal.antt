@@ -8,7 +8,8 @@ use lib.Dec.{ltb}
 use lib.ListN.{length, getD}
 use Rattle.text.specs.Ascii.{ascii}
 
--- A number in decimal digits with no zero in front; n divisions by ten are more than enough for n.
+-- A number in decimal digits with no zero in front; n divisions by ten are more than enough for n. What a `let` names is computed where it is used, so
+-- that a number computes in as many divisions as it has digits.
 unfoldable pub digitsIn : ℕ → ℕ → List ℕ
 digitsIn zero n = (48 + n) ∷ []
 digitsIn (suc k) n = let more = digitsIn k (n / 10) ++ (48 + n % 10) ∷ [] in cond (ltb n 10) ((48 + n) ∷ []) more
