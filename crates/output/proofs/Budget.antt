@@ -1,22 +1,31 @@
 -- An order has three bytes at least, so that no file of 65,535 bytes spends a budget of 65,535 orders.
 use Prim.Native.Nat.{ℕ, zero, suc, _+_, _*_, _≤_}
-use mathlib.Core.Path.{_≡_, refl, sym, subst}
+use mathlib.Core.Path.{_≡_, refl, sym, ap, ap₂, subst, _∙_}
 use mathlib.Core.Logic.{_≢_}
 use mathlib.Core.Bool.{Bool, true, false, _&&_, cond}
-use mathlib.Core.List.{List}
+use mathlib.Core.List.{List, [], _∷_, _++_, append-assoc}
 use native.Mathlib.Omega.{arith}
-use lib.Dec.{leb}
-use lib.ListN.{length}
-use Rattle.formats.specs.declared.FileAnswer.the-variants.{OutOfRange, BodyCut}
+use lib.Dec.{leb, lit≤}
+use lib.ListN.{length, getD, drop}
+use borrow.Author.Tests.{leb-true, leb-false}
+use Rattle.formats.specs.declared.FileAnswer.the-variants.{Whole, OutOfRange, BodyCut, BudgetSpent}
 use Rattle.formats.specs.declared.Mark.{Mark}
 use Rattle.formats.specs.declared.Header.{Header}
 use Rattle.formats.specs.declared.Order.{Order}
 use Rattle.formats.specs.Numbers.{fileNumber}
 use Rattle.formats.specs.Records.{byteAt, fits, markAt, headerBy, headerOf, orderBy, orderAt}
 use Rattle.formats.proofs.Reading.{opened}
-use Rattle.replays.specs.Replays.{Orders, orderThen, ordersFrom, replayBy, replayOf}
-use Rattle.replays.proofs.Turns.{whole-order, from-end}
-use Rattle.output.specs.Promises.{NeverThirteen}
+use Rattle.history.specs.Runs.{Call}
+use Rattle.replays.specs.declared.Replayed.{Replayed}
+use Rattle.replays.specs.Replays.{Orders, ended, then, orderThen, ordersFrom, replayBy, replayOf}
+use Rattle.replays.proofs.Turns.{width, whole-order}
+use Rattle.text.specs.Ascii.{ascii}
+use Rattle.text.specs.Decimal.{digitsIn, decimal, Digits}
+use Rattle.text.specs.Parts.{joined}
+use Rattle.text.proofs.Decimal.{decimal-is-numeral, decimal-tells}
+use Rattle.output.specs.Lines.{fields, processLine, runLine, lastLine, replayLines}
+use Rattle.output.specs.Promises.{FewOrders, NeverThirteen}
+use Rattle.output.proofs.ByLength.{replay-short, replay-long}
 
 -- no record is answered with 13
 abbrev Fine : Order → Type 0
@@ -67,32 +76,68 @@ opens : (s : List ℕ) → Opens (headerOf s)
 unfolding headerOf
 opens s = opens-by s (markAt s 0)
 
--- The orders from a place on, with a budget for what is left of the file.
-record Read (s : List ℕ) (at : ℕ) (o : Orders) : Type 0 where
+-- The orders from a place on, and what is answered where the budget is enough for what is left of the file.
+record Read (k : ℕ) (s : List ℕ) (at : ℕ) (o : Orders) : Type 0 where
   few : at + 3 * length (o .calls) ≤ length s
-  answer : fileNumber (o .answer) ≢ 13
+  answer : length s ≤ at + 3 * k → fileNumber (o .answer) ≢ 13
 
-enough : (k : ℕ) (s : List ℕ) (at : ℕ) → at ≤ length s → length s ≤ at + 3 * k → Read s at (ordersFrom k s at)
+read-none : (t : Bool) (s : List ℕ) (at : ℕ) → leb (length s) at ≡ t → at ≤ length s
+    → Read 0 s at (cond t (ended Whole (length s)) (ended BudgetSpent at))
+read-none true s at e h = record { few = omega arith; answer = λ l q. omega arith }
+read-none false s at e h = record { few = omega arith; answer = λ l q. omega (arith, leb-false (length s) at e) }
+
+read-from : (k : ℕ) (s : List ℕ) (at : ℕ) → at ≤ length s → Read k s at (ordersFrom k s at)
 unfolding ordersFrom
-enough zero s at h l = subst (Read s at) (sym (from-end 0 s at (omega arith))) (record { few = omega arith; answer = λ e. omega arith })
-enough (suc k) s at h l = go (orderAt s at) refl (enough k s)
+read-from zero s at h = read-none (leb (length s) at) s at refl h
+read-from (suc k) s at h = go (orderAt s at) refl (read-from k s)
   where
-    go : (o : Order) → orderAt s at ≡ o → ((next : ℕ) → next ≤ length s → length s ≤ next + 3 * k → Read s next (ordersFrom k s next))
-        → Read s at (orderThen s at o (ordersFrom k s))
-    go Order.End e f = record { few = omega arith; answer = λ q. omega arith }
-    go (Order.Fault a) e f = record { few = omega arith; answer = fine-order s at (Order.Fault a) e }
-    go (Order.Enter p v) e f =
-        let r = f (at + 7) (whole-order s at (Order.Enter p v) h e) (omega arith) in record { few = omega (arith, r .few); answer = r .answer }
-    go (Order.Step p) e f =
-        let r = f (at + 3) (whole-order s at (Order.Step p) h e) (omega arith) in record { few = omega (arith, r .few); answer = r .answer }
-    go (Order.Crash p) e f =
-        let r = f (at + 3) (whole-order s at (Order.Crash p) h e) (omega arith) in record { few = omega (arith, r .few); answer = r .answer }
+    later : (o : Order) → orderAt s at ≡ o → 3 ≤ width o → {x : Orders} {c : Call} → Read k s (at + width o) x → Read (suc k) s at (then c x)
+    later o e w r = record { few = omega (arith, r .few); answer = λ l. r .answer (omega arith) }
+
+    go : (o : Order) → orderAt s at ≡ o → ((next : ℕ) → next ≤ length s → Read k s next (ordersFrom k s next)) → Read (suc k) s at (orderThen s at o (ordersFrom k s))
+    go Order.End e f = record { few = omega arith; answer = λ l q. omega arith }
+    go (Order.Fault a) e f = record { few = omega arith; answer = λ l. fine-order s at (Order.Fault a) e }
+    go (Order.Enter p v) e f = later (Order.Enter p v) e (omega arith) (f (at + 7) (whole-order s at (Order.Enter p v) h e))
+    go (Order.Step p) e f = later (Order.Step p) e (omega arith) (f (at + 3) (whole-order s at (Order.Step p) h e))
+    go (Order.Crash p) e f = later (Order.Crash p) e (omega arith) (f (at + 3) (whole-order s at (Order.Crash p) h e))
+
+-- so of a whole file
+read-file : (s : List ℕ) (budget : ℕ) → length s ≤ 65535 → (replayOf s budget .taken ≤ 21844) × (21844 ≤ budget → fileNumber (replayOf s budget .answer) ≢ 13)
+unfolding replayOf
+read-file s budget h = go (headerOf s) refl (opens s)
+  where
+    go : (x : Header) → headerOf s ≡ x → Opens x
+        → (replayBy s budget x .taken ≤ 21844) × (21844 ≤ budget → fileNumber (replayBy s budget x .answer) ≢ 13)
+    go (Header.Fault a) e o = (omega arith, λ _. o)
+    go (Header.Of n) e o = let r = read-from budget s 3 (opened s n e .long) in (omega (arith, r .few), λ l. r .answer (omega arith))
+
+pub few-orders : FewOrders
+few-orders s budget h = read-file s budget h .0
+
+-- The number in the first line: digits up to a space are those of one number.
+up-to-space : (ds es x y : List ℕ) → Digits ds → Digits es → ds ++ 32 ∷ x ≡ es ++ 32 ∷ y → ds ≡ es
+up-to-space [] [] x y h k e = refl
+up-to-space [] (b ∷ es) x y h k e = absurd (omega (arith, ap (λ (l : List ℕ). getD l 0 0) e, k .0 .low))
+up-to-space (a ∷ ds) [] x y h k e = absurd (omega (arith, ap (λ (l : List ℕ). getD l 0 0) e, h .0 .low))
+up-to-space (a ∷ ds) (b ∷ es) x y h k e =
+    ap₂ (λ (i : ℕ) (l : List ℕ). i ∷ l) (ap (λ (l : List ℕ). getD l 0 0) e) (up-to-space ds es x y (h .1) (k .1) (ap (drop 1) e))
+
+first-number : (r : Replayed) (n : ℕ) (rest : List ℕ) → replayLines r ≡ ascii "run " ++ (decimal n ++ 32 ∷ rest) → fileNumber (r .answer) ≡ n
+unfolding replayLines runLine
+first-number r n rest e =
+    let d = decimal (fileNumber (r .answer)) in
+    let others = decimal (r .place) ++ fields (r .taken ∷ r .accesses ∷ r .refused ∷ []) in
+    let after = joined 1 (r .machine .n) (processLine (r .machine)) ++ lastLine (r .machine) in
+    decimal-tells (fileNumber (r .answer)) n
+    (up-to-space d (decimal n) (others ++ 10 ∷ after) rest (decimal-is-numeral (fileNumber (r .answer)) .digits) (decimal-is-numeral n .digits)
+    (sym (append-assoc (d ++ 32 ∷ others) (10 ∷ []) after ∙ append-assoc d (32 ∷ others) (10 ∷ after)) ∙ ap (drop 4) e))
 
 pub never-thirteen : NeverThirteen
-unfolding replayOf
-never-thirteen s h = go (headerOf s) refl (opens s)
+unfolding decimal digitsIn
+never-thirteen s rest e = go (leb (length s) 65535) refl
   where
-    go : (x : Header) → headerOf s ≡ x → Opens x → (replayBy s 65535 x .taken ≤ 21844) × (fileNumber (replayBy s 65535 x .answer) ≢ 13)
-    go (Header.Fault a) e o = (omega arith, o)
-    go (Header.Of n) e o =
-        let r = enough 65535 s 3 (opened s n e .long) (omega arith) in (omega (arith, r .few), r .answer)
+    go : (t : Bool) → leb (length s) 65535 ≡ t → ⊥
+    go true l =
+        let h = leb-true (length s) 65535 l in
+        read-file s 65535 h .1 (lit≤ tt) (first-number (replayOf s 65535) 13 rest (sym (replay-short s h) ∙ e))
+    go false l = let z = ap (λ (b : List ℕ). getD b 0 0) (sym (replay-long s (leb-false (length s) 65535 l)) ∙ e) in omega arith

@@ -1,7 +1,7 @@
 -- The printed texts, computed. The machine's test of its own shape is dear to compute, so the printed run is first rid of it.
 use Prim.Native.Nat.{ℕ, _≤_}
 use mathlib.Core.Path.{_≡_, refl, ap, _∙_}
-use mathlib.Core.List.{List, [], _∷_}
+use mathlib.Core.List.{List}
 use lib.Dec.{lit≤}
 use lib.ListN.{length}
 use Rattle.sets.specs.Sets.{has, plus, first, every, count, within, size}
@@ -14,14 +14,13 @@ use Rattle.formats.specs.declared.Header.{Header}
 use Rattle.formats.specs.Records.{markOf, markAt, headerOf, orderAt, viewAt}
 use Rattle.formats.specs.ViewFile.{testedAt, valuesRead, readFrom, readOf}
 use Rattle.formats.specs.Examples.{MN}
+use Rattle.formats.proofs.Reading.{opened}
 use Rattle.findings.specs.Findings.{agree, inside, breaks, ofOne, ofPair, findings, checkOf}
 use Rattle.findings.specs.Verdict.{verdictOf}
-use Rattle.findings.specs.Examples.{p10}
 use Rattle.replays.specs.declared.Replayed.{Replayed}
 use Rattle.replays.specs.Replays.{Orders, ordersFrom, replayed, replayBy, replayOf}
 use Rattle.replays.specs.Examples.{printedFile}
 use Rattle.replays.proofs.Promises.{refused-header}
-use Rattle.text.specs.Ascii.{lines}
 use Rattle.text.specs.Decimal.{digitsIn, decimal}
 use Rattle.text.specs.Parts.{joined}
 use Rattle.output.specs.Lines.{pair, pairsFrom, sightLine, processLine, runLine, partaking, lastLine}
@@ -54,39 +53,30 @@ replayed-bare n low high o =
     ∙ ap (traced o) (trace-bare n (fresh n) (meets-fresh n low high) (o .calls))
 
 -- what is printed of a file whose header is taken
-prints : (s : List ℕ) (n : ℕ) {t : List ℕ} → length s ≤ 65535 → headerOf s ≡ Header.Of n → 1 ≤ n → n ≤ 32
-    → replayLines (bare n (ordersFrom 65535 s 3)) ≡ t → replayText s ≡ t
+prints : (s : List ℕ) (n : ℕ) {t : List ℕ} → length s ≤ 65535 → headerOf s ≡ Header.Of n → replayLines (bare n (ordersFrom 65535 s 3)) ≡ t
+    → replayText s ≡ t
 unfolding replayOf
-prints s n h e low high t =
-    replay-short s h ∙ ap (λ (x : Header). replayLines (replayBy s 65535 x)) e ∙ ap replayLines (replayed-bare n low high (ordersFrom 65535 s 3)) ∙ t
-
-refused-33 : replayText (MN 33) ≡ lines ("run 8 0 0 0 0" ∷ "p 1 absent 0 0 -" ∷ "participants 0" ∷ [])
-unfolding headerOf markAt markOf decimal digitsIn
-refused-33 = refused-header-prints (MN 33) OutOfRange (lit≤ tt) refl
-
-unlike-views : verdictText p10 ≡ lines ("verdict 22 37 1 2" ∷ [])
-unfolding verdictText verdictLine decimal digitsIn verdictOf checkOf findings ofOne ofPair breaks agree inside joined readOf readFrom headerOf viewAt markAt markOf
-    testedAt valuesRead has plus first every count within size
-unlike-views = refl
-
-nothing : verdictText [] ≡ lines ("verdict 9 0 0 0" ∷ [])
-unfolding verdictText verdictLine decimal digitsIn verdictOf readOf headerOf markAt markOf
-nothing = refl
+prints s n h e t =
+    let o = opened s n e in
+    replay-short s h ∙ ap (λ (x : Header). replayLines (replayBy s 65535 x)) e
+    ∙ ap replayLines (replayed-bare n (o .some) (o .most) (ordersFrom 65535 s 3)) ∙ t
 
 pub texts : Texts
 unfolding replayLines runLine headerOf ordersFrom orderAt markAt markOf traceBy bareAnswer access settle reading has plus count size joined processLine sightLine
-    rowValues pairsFrom pair decimal digitsIn lastLine partaking
+    rowValues pairsFrom pair decimal digitsIn lastLine partaking verdictText verdictLine verdictOf checkOf findings ofOne ofPair breaks agree inside readOf readFrom
+    viewAt testedAt valuesRead first every within
 texts =
     record {
-      printed-run = prints printedFile 2 (lit≤ tt) refl (lit≤ tt) (lit≤ tt) refl;
-      p2 = prints p2File 1 (lit≤ tt) refl (lit≤ tt) (lit≤ tt) refl;
-      largest = prints largestFile 1 (lit≤ tt) refl (lit≤ tt) (lit≤ tt) refl;
-      p7 = prints p7File 3 (lit≤ tt) refl (lit≤ tt) (lit≤ tt) refl;
-      running = prints runningFile 2 (lit≤ tt) refl (lit≤ tt) (lit≤ tt) refl;
-      absent = prints absentFile 2 (lit≤ tt) refl (lit≤ tt) (lit≤ tt) refl;
-      ten = prints tenFile 10 (lit≤ tt) refl (lit≤ tt) (lit≤ tt) refl;
-      cut = prints cutFile 1 (lit≤ tt) refl (lit≤ tt) (lit≤ tt) refl;
-      refused-header = refused-33;
-      unlike-views = unlike-views;
-      nothing = nothing;
+      printed-run = prints printedFile 2 (lit≤ tt) refl refl;
+      p2 = prints p2File 1 (lit≤ tt) refl refl;
+      largest = prints largestFile 1 (lit≤ tt) refl refl;
+      p7 = prints p7File 3 (lit≤ tt) refl refl;
+      running = prints runningFile 2 (lit≤ tt) refl refl;
+      absent = prints absentFile 2 (lit≤ tt) refl refl;
+      ten = prints tenFile 10 (lit≤ tt) refl refl;
+      cut = prints cutFile 1 (lit≤ tt) refl refl;
+      refused-header = refused-header-prints (MN 33) OutOfRange (lit≤ tt) refl;
+      unlike-views = refl;
+      nothing = refl;
+      no-views = refl;
     }

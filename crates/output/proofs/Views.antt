@@ -25,21 +25,21 @@ use Rattle.replays.proofs.Promises.{every-file-demand-three}
 use Rattle.text.specs.Ascii.{ascii}
 use Rattle.text.specs.Decimal.{decimal, Digits}
 use Rattle.text.specs.Parts.{joined}
-use Rattle.text.proofs.Decimal.{decimal-writes}
+use Rattle.text.proofs.Decimal.{decimal-is-numeral}
 use Rattle.text.proofs.Parts.{joined-more, joined-beyond, joined-ext}
 use Rattle.output.specs.Lines.{comma, pair, pairsFrom, viewText}
 use Rattle.output.specs.Promises.{pairText, commas, ViewPrinted, EveryViewPrinted}
 
 -- parts after others, each with a comma before it unless it is the first of all
-abbrev onward : Bool → List (List ℕ) → List ℕ
-onward later [] = []
-onward later (x ∷ xs) = comma later ++ (x ++ onward true xs)
+abbrev chained : Bool → List (List ℕ) → List ℕ
+chained later [] = []
+chained later (x ∷ xs) = comma later ++ (x ++ chained true xs)
 
-commas-onward : (xs : List (List ℕ)) → commas xs ≡ onward false xs
+commas-chained : (xs : List (List ℕ)) → commas xs ≡ chained false xs
 unfolding commas
-commas-onward [] = refl
-commas-onward (x ∷ []) = sym (append-nil x)
-commas-onward (x ∷ y ∷ ys) = ap (λ (l : List ℕ). x ++ (ascii "," ++ l)) (commas-onward (y ∷ ys))
+commas-chained [] = refl
+commas-chained (x ∷ []) = sym (append-nil x)
+commas-chained (x ∷ y ∷ ys) = ap (λ (l : List ℕ). x ++ (ascii "," ++ l)) (commas-chained (y ∷ ys))
 
 -- the pair of a process that is in a set, by what it holds
 abbrev one : Bool → ℕ → ℕ → List Pair
@@ -51,11 +51,11 @@ member w value i = one (has w i) i (value i)
 abbrev beside : List ℕ → ℕ → ℕ
 beside values i = getD values (i - 1) 0
 
-pairs-onward : (later : Bool) (w : ℕ) (values : List ℕ) (i k : ℕ)
-    → pairsFrom later w values i k ≡ onward later (map pairText (joined i k (member w (beside values))))
+pairs-chained : (later : Bool) (w : ℕ) (values : List ℕ) (i k : ℕ)
+    → pairsFrom later w values i k ≡ chained later (map pairText (joined i k (member w (beside values))))
 unfolding pairsFrom pair joined
-pairs-onward later w values i zero = refl
-pairs-onward later w values i (suc k) = go (has w i) (λ b. pairs-onward b w values (suc i) k)
+pairs-chained later w values i zero = refl
+pairs-chained later w values i (suc k) = go (has w i) (λ b. pairs-chained b w values (suc i) k)
   where
     v : ℕ
     v = beside values i
@@ -63,9 +63,9 @@ pairs-onward later w values i (suc k) = go (has w i) (λ b. pairs-onward b w val
     rest : List Pair
     rest = joined (suc i) k (member w (beside values))
 
-    go : (t : Bool) → ((b : Bool) → pairsFrom b w values (suc i) k ≡ onward b (map pairText rest))
+    go : (t : Bool) → ((b : Bool) → pairsFrom b w values (suc i) k ≡ chained b (map pairText rest))
         → cond t (pair later i v ++ pairsFrom true w values (suc i) k) (pairsFrom later w values (suc i) k)
-        ≡ onward later (map pairText (one t i v ++ rest))
+        ≡ chained later (map pairText (one t i v ++ rest))
     go true more =
         let text = decimal i ++ (ascii ":" ++ decimal v) in
         append-assoc (comma later) text (pairsFrom true w values (suc i) k)
@@ -114,23 +114,23 @@ module _ (m : Machine) (sh : Shaped m) (x w : ℕ) (ended : Ended (m .n) (rowOf 
       ∙ sym (pairs-members m x w (m .n))
 
   -- so what is printed is the figure's list
-  listed : pairsFrom false w (rowValues (m .values) x w 1 32) 1 32 ≡ onward false (map pairText (pairs 1 (readings m x w (m .n))))
-  listed = pairs-onward false w (rowValues (m .values) x w 1 32) 1 32 ∙ ap (λ l. onward false (map pairText l)) members
+  listed : pairsFrom false w (rowValues (m .values) x w 1 32) 1 32 ≡ chained false (map pairText (pairs 1 (readings m x w (m .n))))
+  listed = pairs-chained false w (rowValues (m .values) x w 1 32) 1 32 ∙ ap (λ l. chained false (map pairText l)) members
 
 -- The first byte of a list of pairs is a digit.
 first-digit : (n : ℕ) (l : List ℕ) → 48 ≤ getD (decimal n ++ l) 0 0
 first-digit n l =
-    let t = decimal-writes n in
+    let t = decimal-is-numeral n in
     omega (arith, List·getD-append (decimal n) l 0 0 (t .some), low (decimal n) (t .digits) (t .some))
   where
     low : (ds : List ℕ) → Digits ds → 1 ≤ length ds → 48 ≤ getD ds 0 0
     low [] h k = absurd (omega arith)
     low (d ∷ ds) h k = h .0 .low
 
-no-dash : (qs : List Pair) → 1 ≤ length qs → onward false (map pairText qs) ≡ ascii "-" → ⊥
+no-dash : (qs : List Pair) → 1 ≤ length qs → chained false (map pairText qs) ≡ ascii "-" → ⊥
 no-dash [] h e = omega arith
 no-dash (q ∷ qs) h e =
-    let rest = onward true (map pairText qs) in
+    let rest = chained true (map pairText qs) in
     let value = ascii ":" ++ decimal (q .value) in
     let first = ap (λ (l : List ℕ). getD l 0 0) (sym (append-assoc (decimal (q .process)) value rest) ∙ e) in
     omega (arith, first-digit (q .process) (value ++ rest))
@@ -166,8 +166,8 @@ module _ (m : Machine) (sh : Shaped m) (i : ℕ) (low : 1 ≤ i) (high : i ≤ m
       absurd (true≢false (sym (program-goes m i x k f (valueOf m i) (stage-shaped (Running x k f) e)) ∙ ap accesses r))
   paired (Crashed x k f) e list r = absurd (let z : _≡_ {A = ℕ} 0 1 = cc in omega arith)
   paired (Finished x w) e list r =
-      listed m sh x w (stage-shaped (Finished x w) e) ∙ ap (λ l. onward false (map pairText l)) (returns-one (pairs 1 (readings m x w (m .n))) list r)
-      ∙ sym (commas-onward (map pairText list))
+      listed m sh x w (stage-shaped (Finished x w) e) ∙ ap (λ l. chained false (map pairText l)) (returns-one (pairs 1 (readings m x w (m .n))) list r)
+      ∙ sym (commas-chained (map pairText list))
 
   view-printed : ViewPrinted m i
   view-printed = record { dash = dashed (stageOf m i) refl; pairs = paired (stageOf m i) refl }

@@ -1,5 +1,5 @@
 -- Printed texts, computed: document 01's own, P2 and P7, other runs, a cut file, a refused header, and verdicts.
-use Prim.Native.Nat.{ℕ, zero, suc, _-_}
+use Prim.Native.Nat.{ℕ, _-_}
 use mathlib.Core.Path.{_≡_}
 use mathlib.Core.List.{List, [], _∷_, _++_}
 use Rattle.formats.specs.Examples.{MN}
@@ -8,11 +8,6 @@ use Rattle.replays.specs.Examples.{EN, ST, CR, printedFile}
 use Rattle.text.specs.Ascii.{lines}
 use Rattle.text.specs.Parts.{joined}
 use Rattle.output.specs.Lines.{replayText, verdictText}
-
--- a record as often as that
-abbrev pub times : ℕ → List ℕ → List ℕ
-times zero r = []
-times (suc k) r = r ++ times k r
 
 -- P2, "n = 1, value 0: two steps", and with the largest value that a register holds
 abbrev pub p2File : List ℕ
@@ -23,7 +18,7 @@ largestFile = MN 1 ++ (69 ∷ 78 ∷ 1 ∷ 255 ∷ 255 ∷ 255 ∷ 255 ∷ []) +
 
 -- P7, "n = 3: 1 writes and crashes; 2 alone ends at level 1 after 12; 3 alone ends at level 3 after 4, and its view has 1, 2, 3"
 abbrev pub p7File : List ℕ
-p7File = MN 3 ++ EN 1 5 ++ EN 2 6 ++ EN 3 7 ++ ST 1 ++ CR 1 ++ times 12 (ST 2) ++ times 4 (ST 3)
+p7File = MN 3 ++ EN 1 5 ++ EN 2 6 ++ EN 3 7 ++ ST 1 ++ CR 1 ++ joined 1 12 (λ _. ST 2) ++ joined 1 4 (λ _. ST 3)
 
 -- two write, and 1 reads; 2 alone has entered; ten write, and 10 reads
 abbrev pub runningFile : List ℕ
@@ -33,7 +28,7 @@ abbrev pub absentFile : List ℕ
 absentFile = MN 2 ++ EN 2 7
 
 abbrev pub tenFile : List ℕ
-tenFile = MN 10 ++ joined 1 10 (λ i. EN i (20 - i)) ++ joined 1 10 ST ++ times 10 (ST 10)
+tenFile = MN 10 ++ joined 1 10 (λ i. EN i (20 - i)) ++ joined 1 10 ST ++ joined 1 10 (λ _. ST 10)
 
 -- a step that is refused, then one cut off
 abbrev pub cutFile : List ℕ
@@ -57,3 +52,4 @@ pub record Texts : Type 0 where
   pub refused-header : replayText (MN 33) ≡ lines ("run 8 0 0 0 0" ∷ "p 1 absent 0 0 -" ∷ "participants 0" ∷ [])
   pub unlike-views : verdictText p10 ≡ lines ("verdict 22 37 1 2" ∷ [])
   pub nothing : verdictText [] ≡ lines ("verdict 9 0 0 0" ∷ [])
+  pub no-views : verdictText (MN 3) ≡ lines ("verdict 0 3 0 0" ∷ [])

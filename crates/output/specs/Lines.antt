@@ -34,22 +34,6 @@ abbrev pub line : List (List ℕ) → List ℕ
 line [] = 10 ∷ []
 line (x ∷ xs) = x ++ line xs
 
--- the words
-abbrev pub tooLong : List ℕ
-tooLong = line (ascii "too long" ∷ [])
-
-abbrev pub run : List ℕ
-run = ascii "run"
-
-abbrev pub p : List ℕ
-p = ascii "p"
-
-abbrev pub participants : List ℕ
-participants = ascii "participants"
-
-abbrev pub verdict : List ℕ
-verdict = ascii "verdict"
-
 -- "stage (`absent`, `running`, `finished`, `crashed`)", after a space
 abbrev pub stageWord : Standing → List ℕ
 stageWord Absent = ascii " absent"
@@ -83,31 +67,33 @@ viewText s = view (s .standing) (s .view) (s .values)
 
 -- "Then for each process, ascending: `p`, number, stage, level, accesses, view": what a look at the process shows
 unfoldable pub sightLine : ℕ → Sight → List ℕ
-sightLine i s = line (p ∷ field i ∷ stageWord (s .standing) ∷ field (s .level) ∷ field (s .accesses) ∷ (ascii " " ++ viewText s) ∷ [])
+sightLine i s = line (ascii "p" ∷ field i ∷ stageWord (s .standing) ∷ field (s .level) ∷ field (s .accesses) ∷ (ascii " " ++ viewText s) ∷ [])
 
 unfoldable pub processLine : Machine → ℕ → List ℕ
 processLine m i = sightLine i (looked m (stageOf m i))
 
 -- "Line 1: `run`, number, place, orders taken, accesses, orders refused."
 unfoldable pub runLine : Replayed → List ℕ
-runLine r =
-    line (run ∷ fields (fileNumber (r .answer) ∷ r .place ∷ r .taken ∷ r .accesses ∷ r .refused ∷ []) ∷ [])
+runLine r = line (ascii "run" ∷ fields (fileNumber (r .answer) ∷ r .place ∷ r .taken ∷ r .accesses ∷ r .refused ∷ []) ∷ [])
 
 -- "Last: `participants` and how many processes have entered."
 unfoldable pub partaking : Machine → ℕ
 partaking m = count (λ i. entered (stageOf m i)) (m .n)
 
 unfoldable pub lastLine : Machine → List ℕ
-lastLine m = line (participants ∷ fields (partaking m ∷ []) ∷ [])
+lastLine m = line (ascii "participants" ∷ fields (partaking m ∷ []) ∷ [])
 
 unfoldable pub replayLines : Replayed → List ℕ
 replayLines r = runLine r ++ (joined 1 (r .machine .n) (processLine (r .machine)) ++ lastLine (r .machine))
 
 -- "Verdict prints one line: `verdict`, number, place, i, j (0 where none)."
 unfoldable pub verdictLine : FileVerdict → List ℕ
-verdictLine v = line (verdict ∷ fields (v .number ∷ v .place ∷ v .i ∷ v .j ∷ []) ∷ [])
+verdictLine v = line (ascii "verdict" ∷ fields (v .number ∷ v .place ∷ v .i ∷ v .j ∷ []) ∷ [])
 
 -- "Both programs take at most 65,535 bytes; for more they print `too long` and nothing else. Replay uses a budget of 65,535 orders."
+abbrev pub tooLong : List ℕ
+tooLong = line (ascii "too long" ∷ [])
+
 unfoldable pub replayText : List ℕ → List ℕ
 replayText s = cond (leb (length s) 65535) (replayLines (replayOf s 65535)) tooLong
 

@@ -28,8 +28,11 @@ TooLongExactly = (s : List ℕ)
     → ((replayText s ≡ lines ("too long" ∷ [])) ↔ (65535 < length s)) × ((verdictText s ≡ lines ("too long" ∷ [])) ↔ (65535 < length s))
 
 -- "Replay uses a budget of 65,535 orders": 65,535 bytes hold at most 21,844, so that it is never spent, and 13 is never printed.
+abbrev pub FewOrders : Type 0
+FewOrders = (s : List ℕ) (budget : ℕ) → length s ≤ 65535 → replayOf s budget .taken ≤ 21844
+
 abbrev pub NeverThirteen : Type 0
-NeverThirteen = (s : List ℕ) → length s ≤ 65535 → (replayOf s 65535 .taken ≤ 21844) × (fileNumber (replayOf s 65535 .answer) ≢ 13)
+NeverThirteen = (s rest : List ℕ) → replayText s ≢ ascii "run 13 " ++ rest
 
 -- "A refused header prints the process line `p 1 absent 0 0 -`": every one, after the line `run`, its number, and 0 four times.
 abbrev pub RefusedHeaderPrints : Type 0

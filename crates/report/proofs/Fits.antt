@@ -20,8 +20,9 @@ use Rattle.formats.specs.Numbers.{fileNumber}
 use Rattle.replays.specs.declared.Replayed.{Replayed}
 use Rattle.findings.specs.declared.FileVerdict.{FileVerdict}
 use Rattle.text.specs.Decimal.{decimal}
-use Rattle.output.specs.Lines.{field, fields, line, verdict, verdictLine, run, p, participants, stageWord, comma, pair}
+use Rattle.output.specs.Lines.{field, fields, line, verdictLine, stageWord, comma, pair}
 use Rattle.output.specs.Lines.{pairsFrom, view, sightLine, runLine, partaking, lastLine}
+use Rattle.text.specs.Ascii.{ascii}
 use Rattle.text.specs.Stores.{Room, Stored, over}
 use Rattle.text.proofs.Decimal.{two-digits, ten-digits, twenty-digits}
 use Rattle.text.proofs.Stores.{stored-length, stored-over}
@@ -58,8 +59,8 @@ wide-field n h = omega (arith, twenty-digits n (omega (arith, h)))
 pub verdict-length : (v : FileVerdict) → v .number < 2 ^ 32 → v .place < 2 ^ 64 → v .i < 2 ^ 32 → v .j < 2 ^ 32 → length (verdictLine v) ≤ 62
 unfolding verdictLine
 verdict-length v a b c d =
-    let word : length verdict ≤ 7 = omega arith in
-    words-length verdict (v .number ∷ v .place ∷ v .i ∷ v .j ∷ []) word
+    let word : length (ascii "verdict") ≤ 7 = omega arith in
+    words-length (ascii "verdict") (v .number ∷ v .place ∷ v .i ∷ v .j ∷ []) word
     (next (word-field (v .number) a) (next (wide-field (v .place) b) (next (word-field (v .i) c) (next (word-field (v .j) d) none))))
 
 -- a pair has at most a comma, two digits, a colon and ten digits
@@ -117,8 +118,8 @@ pub sight-length : (i : ℕ) (s : Sight) → i < 100 → s .level < 2 ^ 32 → s
     → length (sightLine i s) ≤ 485
 unfolding sightLine
 sight-length i s h x k f =
-    let word : length p ≤ 1 = omega arith in
-    line-length (p ∷ field i ∷ stageWord (s .standing) ∷ field (s .level) ∷ field (s .accesses) ∷
+    let word : length (ascii "p") ≤ 1 = omega arith in
+    line-length (ascii "p" ∷ field i ∷ stageWord (s .standing) ∷ field (s .level) ∷ field (s .accesses) ∷
     (32 ∷ view (s .standing) (s .view) (s .values)) ∷ [])
     (part word
     (part (small-field i h)
@@ -141,17 +142,17 @@ number-small NamesAbove = omega arith
 pub run-length : (r : Replayed) → r .place < 2 ^ 64 → r .taken < 2 ^ 32 → r .accesses < 2 ^ 32 → r .refused < 2 ^ 32 → length (runLine r) ≤ 69
 unfolding runLine
 run-length r a b c d =
-    let word : length run ≤ 3 = omega arith in
-    words-length run (fileNumber (r .answer) ∷ r .place ∷ r .taken ∷ r .accesses ∷ r .refused ∷ []) word
+    let word : length (ascii "run") ≤ 3 = omega arith in
+    words-length (ascii "run") (fileNumber (r .answer) ∷ r .place ∷ r .taken ∷ r .accesses ∷ r .refused ∷ []) word
     (next (word-field (fileNumber (r .answer)) (number-small (r .answer)))
     (next (wide-field (r .place) a) (next (word-field (r .taken) b) (next (word-field (r .accesses) c) (next (word-field (r .refused) d) none)))))
 
 pub last-length : (m : Machine) → m .n ≤ 32 → length (lastLine m) ≤ 16
 unfolding lastLine partaking
 last-length m h =
-    let word : length participants ≤ 12 = omega arith in
+    let word : length (ascii "participants") ≤ 12 = omega arith in
     let k : partaking m < 100 = omega (arith, count-le (λ i. entered (stageOf m i)) (m .n)) in
-    words-length participants (partaking m ∷ []) word (next (small-field (partaking m) k) none)
+    words-length (ascii "participants") (partaking m ∷ []) word (next (small-field (partaking m) k) none)
 
 -- a text that stands from the start of a buffer
 pub whole : {b x text b′ : List ℕ} {r : ℕ} → text ≡ x → Room b 0 x → Stored b 0 x b′ r → ((r ≡ length text) × (r ≤ length b′)) × (b′ ≡ over text b)

@@ -8,7 +8,7 @@ use native.Mathlib.Omega.{arith}
 use lib.Dec.{ltb}
 use lib.ListN.{length, getD, length-append, List·getD-append}
 use borrow.Author.Tests.{lt-ltb, le-ltb, ltb-true, ltb-false}
-use Rattle.text.specs.Decimal.{digitsIn, decimal, readOn, readBack, Digit, Digits, Writes, DecimalWrites, DecimalAlone, DecimalTells}
+use Rattle.text.specs.Decimal.{digitsIn, decimal, readOn, readBack, Digit, Digits, Numeral, DecimalIsNumeral, OneNumeral, DecimalTells}
 
 -- below ten, and from ten on
 below : (k n : ℕ) → n < 10 → digitsIn (suc k) n ≡ (48 + n) ∷ []
@@ -123,8 +123,8 @@ spelt-above n h t =
 spelt : (n : ℕ) → Spelt n (decimal n)
 spelt = by-tenths (λ n. Spelt n (decimal n)) spelt-below spelt-above
 
-pub decimal-writes : DecimalWrites
-decimal-writes n =
+pub decimal-is-numeral : DecimalIsNumeral
+decimal-is-numeral n =
     let t = spelt n in
     record {
       digits = t .digits;
@@ -134,7 +134,7 @@ decimal-writes n =
     }
 
 pub decimal-tells : DecimalTells
-decimal-tells m n e = sym (decimal-writes m .reads) ∙ ap readBack e ∙ decimal-writes n .reads
+decimal-tells m n e = sym (decimal-is-numeral m .reads) ∙ ap readBack e ∙ decimal-is-numeral n .reads
 
 -- Other bytes that write the number: their last digit, and what stands before it.
 record Parted (ds : List ℕ) : Type 0 where
@@ -159,7 +159,7 @@ more-than-0 : (b : ℕ) (bs : List ℕ) → Digit b → b ≢ 48 → 1 ≤ readB
 unfolding readOn
 more-than-0 b bs h ne = omega (arith, reads-on (10 * 0 + (b - 48)) bs, h .low)
 
-after : (n : ℕ) (xs : List ℕ) (x : ℕ) → ((q : ℕ) → Writes q xs → xs ≡ decimal q) → Writes n (xs ++ x ∷ []) → xs ++ x ∷ [] ≡ decimal n
+after : (n : ℕ) (xs : List ℕ) (x : ℕ) → ((q : ℕ) → Numeral q xs → xs ≡ decimal q) → Numeral n (xs ++ x ∷ []) → xs ++ x ∷ [] ≡ decimal n
 unfolding readOn
 after n [] x before w =
     let d = w .digits .0 in
@@ -176,13 +176,13 @@ after n (b ∷ bs) x before w =
     let last : x ≡ 48 + n % 10 = omega (arith, d .1 .high, d .1 .low) in
     ap₂ (λ (l : List ℕ) (y : ℕ). l ++ y ∷ []) (first ∙ ap decimal (sym tenth)) last ∙ sym (decimal-above n (omega arith))
 
-alone : (k n : ℕ) (ds : List ℕ) → length ds ≤ k → Writes n ds → ds ≡ decimal n
+alone : (k n : ℕ) (ds : List ℕ) → length ds ≤ k → Numeral n ds → ds ≡ decimal n
 alone zero n ds h w = absurd (omega (arith, w .some))
 alone (suc k) n [] h w = absurd (omega (arith, w .some))
 alone (suc k) n (b ∷ bs) h w =
     let r = parted b bs in
     let l : length (r .init) ≤ k = omega (arith, ap length (r .whole), length-append (r .init) (r .last ∷ [])) in
-    r .whole ∙ after n (r .init) (r .last) (λ q. alone k q (r .init) l) (subst (Writes n) (r .whole) w)
+    r .whole ∙ after n (r .init) (r .last) (λ q. alone k q (r .init) l) (subst (Numeral n) (r .whole) w)
 
-pub decimal-alone : DecimalAlone
-decimal-alone n ds w = alone (length ds) n ds (omega arith) w
+pub one-numeral : OneNumeral
+one-numeral n ds w = alone (length ds) n ds (omega arith) w

@@ -8,7 +8,8 @@ use lib.Dec.{ltb}
 use lib.ListN.{length, getD}
 use Rattle.text.specs.Ascii.{ascii}
 
--- A number in decimal digits with no zero in front; n divisions by ten are more than enough for n.
+-- A number in decimal digits with no zero in front; n divisions by ten are more than enough for n. What a `let` names is computed where it is used, so
+-- that a number computes in as many divisions as it has digits.
 unfoldable pub digitsIn : ℕ → ℕ → List ℕ
 digitsIn zero n = (48 + n) ∷ []
 digitsIn (suc k) n = let more = digitsIn k (n / 10) ++ (48 + n % 10) ∷ [] in cond (ltb n 10) ((48 + n) ∷ []) more
@@ -33,19 +34,19 @@ abbrev pub Digits : List ℕ → Type 0
 Digits [] = Unit {0}
 Digits (b ∷ bs) = Digit b × Digits bs
 
--- The bytes ds are the number n in digits, "with no leading zero": 0 is one digit.
-pub record Writes (n : ℕ) (ds : List ℕ) : Type 0 where
+-- The bytes ds are the number n in decimal digits with no zero in front: one digit at least, and where there are more the first is not `0`.
+pub record Numeral (n : ℕ) (ds : List ℕ) : Type 0 where
   pub digits : Digits ds
   pub some : 1 ≤ length ds
   pub front : 1 < length ds → getD ds 0 0 ≢ 48
   pub reads : readBack ds ≡ n
 
-abbrev pub DecimalWrites : Type 0
-DecimalWrites = (n : ℕ) → Writes n (decimal n)
+abbrev pub DecimalIsNumeral : Type 0
+DecimalIsNumeral = (n : ℕ) → Numeral n (decimal n)
 
 -- and no other bytes are; so two numbers in equal digits are equal
-abbrev pub DecimalAlone : Type 0
-DecimalAlone = (n : ℕ) (ds : List ℕ) → Writes n ds → ds ≡ decimal n
+abbrev pub OneNumeral : Type 0
+OneNumeral = (n : ℕ) (ds : List ℕ) → Numeral n ds → ds ≡ decimal n
 
 abbrev pub DecimalTells : Type 0
 DecimalTells = (m n : ℕ) → decimal m ≡ decimal n → m ≡ n

@@ -2,7 +2,8 @@
 use Prim.Native.Nat.{ℕ}
 use mathlib.Core.Path.{sym, ap}
 use mathlib.Core.List.{[], _∷_}
-use Rattle.output.specs.Lines.{fields, line, participants, lastLine}
+use Rattle.output.specs.Lines.{fields, line, lastLine}
+use Rattle.text.specs.Ascii.{ascii}
 use Rattle.text.proofs.Stores.{room-as, stored-as}
 use borrow.Author.Needs.{needs}
 use Rattle.report.proofs.put_last.Statement.{statement}
@@ -19,14 +20,14 @@ slice-aggregate-put-line-2 c = search needs
 
 put-line-requires : tie.Need-put-line-requires
 unfolding lastLine
-put-line-requires c κs = room-as (ap (λ (k : ℕ). line (participants ∷ fields (k ∷ []) ∷ [])) (sym (c .before .before .before .partaking .ensures))) (c .before .before .before .before .before .pre .0)
+put-line-requires c κs = room-as (ap (λ (k : ℕ). line (ascii "participants" ∷ fields (k ∷ []) ∷ [])) (sym (c .before .before .before .partaking .ensures))) (c .before .before .before .before .before .pre .0)
 
 same-length : tie.Need-same-length
 same-length c = search needs
 
 returns : tie.Need-returns
 unfolding lastLine
-returns c = stored-as (ap (λ (k : ℕ). line (participants ∷ fields (k ∷ []) ∷ [])) (c .before .before .before .before .before .before .partaking .ensures)) (c .before .before .put-line .ensures)
+returns c = stored-as (ap (λ (k : ℕ). line (ascii "participants" ∷ fields (k ∷ []) ∷ [])) (c .before .before .before .before .before .before .partaking .ensures)) (c .before .before .put-line .ensures)
 
 pub put-last-spec : {M : Type 1} → statement M
 put-last-spec =

@@ -3,7 +3,8 @@ use Prim.Native.Nat.{ℕ}
 use mathlib.Core.Path.{sym, ap}
 use mathlib.Core.List.{List, [], _∷_}
 use Rattle.replays.specs.declared.Replayed.{Replayed}
-use Rattle.output.specs.Lines.{fields, line, run, runLine}
+use Rattle.output.specs.Lines.{fields, line, runLine}
+use Rattle.text.specs.Ascii.{ascii}
 use Rattle.text.proofs.Stores.{room-as, stored-as}
 use borrow.Author.Needs.{needs}
 use Rattle.report.proofs.put_run.Statement.{statement}
@@ -11,7 +12,7 @@ use Rattle.report.proofs.put_run.Tie as tie
 
 -- the line by its number
 abbrev numbered : Replayed → ℕ → List ℕ
-numbered r k = line (run ∷ fields (k ∷ r .place ∷ r .taken ∷ r .accesses ∷ r .refused ∷ []) ∷ [])
+numbered r k = line (ascii "run" ∷ fields (k ∷ r .place ∷ r .taken ∷ r .accesses ∷ r .refused ∷ []) ∷ [])
 
 number-requires : tie.Need-number-requires
 number-requires c κs = search needs

@@ -3,7 +3,8 @@ use Prim.Native.Nat.{ℕ}
 use mathlib.Core.Path.{_∙_}
 use mathlib.Core.List.{List, [], _∷_, _++_}
 use Rattle.rules.specs.declared.Sight.{Sight}
-use Rattle.output.specs.Lines.{p, field, stageWord, view, sightLine}
+use Rattle.output.specs.Lines.{field, stageWord, view, sightLine}
+use Rattle.text.specs.Ascii.{ascii}
 use Rattle.text.specs.Stores.{Room}
 use Rattle.text.proofs.Stores.{room-first, room-rest, then}
 use borrow.Author.Needs.{needs}
@@ -81,7 +82,7 @@ slice-aggregate-put-word c = search needs
 
 put-word-requires : tie.Need-put-word-requires
 unfolding sightLine
-put-word-requires c κs = let a = c .before .before .before .before in room-first (p) (left-1 (a .args .i) (a .args .s)) (a .pre)
+put-word-requires c κs = let a = c .before .before .before .before in room-first (ascii "p") (left-1 (a .args .i) (a .args .s)) (a .pre)
 
 put-field-requires : tie.Need-put-field-requires
 put-field-requires c κs = let d = c .before .before .before in
