@@ -9,10 +9,11 @@ use lib.ListN.{length, drop}
 use borrow.Author.Tests.{leb-true, leb-false}
 use Rattle.rules.specs.declared.Machine.{Machine}
 use Rattle.rules.specs.Shape.{shaped}
+use Rattle.rules.proofs.Laws.Shapes.{both-sides}
 use Rattle.replays.specs.declared.Written.{Written}
 use Rattle.replays.specs.declared.WriteAnswer.the-variants.{Done, NotShaped, TooShort}
 use Rattle.replays.specs.Writes.{writeNumber, bytesOf, written, writeOf, bufferOf}
-use Rattle.replays.specs.Promises.{WriteNumbers, EveryWriteNumbered}
+use Rattle.replays.specs.Promises.{WriteNumbers, EveryWriteNumbered, EveryClauseWritten}
 
 -- an answer, and what it leaves of a buffer
 abbrev pub Answers : Machine → List ℕ → Written → List ℕ → Type 0
@@ -66,3 +67,14 @@ numbered m b true true e f =
 
 pub every-write-numbered : EveryWriteNumbered
 every-write-numbered m b = numbered m b (shaped m) (leb (length (bytesOf m)) (length b)) refl refl
+
+-- the states on both sides of each clause of the shape
+pub every-clause-written : EveryClauseWritten
+every-clause-written e h =
+    record {
+      broken = λ b.
+          let w = every-write-numbered (e .broken) b in
+          let one : writeNumber (writeOf (e .broken) (length b) .answer) ≡ 1 = w .one .1 (λ s. true≢false (sym s ∙ both-sides e h .broken)) in
+          (one, w .nothing (λ z. omega arith) .1);
+      neighbour = λ b o. every-write-numbered (e .neighbour) b .one .0 o (both-sides e h .neighbour);
+    }

@@ -4,7 +4,7 @@ use Prim.Native.Nat.{ℕ, _+_, _-_, _*_, _≤_, _<_}
 use mathlib.Core.Bool.{true}
 use mathlib.Core.Path.{_≡_}
 use mathlib.Core.Logic.{_↔_, _≢_}
-use mathlib.Core.List.{List, _++_}
+use mathlib.Core.List.{List, _++_, List·Memᴰ}
 use lib.ListN.{length, getD, take, drop}
 use Rattle.sets.specs.Sets.{count, size}
 use Rattle.sets.specs.Immediate.{Immediate}
@@ -14,6 +14,7 @@ use Rattle.rules.specs.declared.Standing.{Standing}
 use Rattle.rules.specs.State.{stageOf, finished, foundOf}
 use Rattle.rules.specs.Shape.{Held, Words, shaped}
 use Rattle.rules.specs.Calls.{fresh, lookOf}
+use Rattle.rules.specs.Shapes.{BothSides, everyClause}
 use Rattle.rules.specs.Statements.{Meets}
 use Rattle.history.specs.Runs.{Call, runs, acceptedSteps, allSteps, refusedCalls, reached, given}
 use Rattle.history.specs.Views.{Has, View}
@@ -123,6 +124,14 @@ pub record WriteNumbers (m : Machine) (buffer : List ℕ) : Type 0 where
 
 abbrev pub EveryWriteNumbered : Type 0
 EveryWriteNumbered = (m : Machine) (buffer : List ℕ) → WriteNumbers m buffer
+
+-- The states on both sides of each clause of the shape: the writer refuses the first of a pair with 1 and writes nothing; it does not refuse the other so.
+pub record WriterTested (e : BothSides) : Type 0 where
+  pub broken : (buffer : List ℕ) → (writeNumber (writeOf (e .broken) (length buffer) .answer) ≡ 1) × (bufferOf (e .broken) buffer ≡ buffer)
+  pub neighbour : (buffer : List ℕ) → writeNumber (writeOf (e .neighbour) (length buffer) .answer) ≢ 1
+
+abbrev pub EveryClauseWritten : Type 0
+EveryClauseWritten = (e : BothSides) → List·Memᴰ e everyClause → WriterTested e
 
 -- What the writer writes of a process is what a look at it shows.
 pub record AsLooked (m : Machine) (i : ℕ) : Type 0 where

@@ -4,6 +4,7 @@
 ghost use Prim.Native.Nat.{_<_};
 use libc::STDIN_FILENO;
 use libc::STDOUT_FILENO;
+use replays::WriteAnswer;
 use rules::Answer;
 use rules::Machine;
 use rules::Process;
@@ -74,13 +75,27 @@ fn try_look(m: Machine, p: u32) {
     print_number(answer);
 }
 
-// What enter, step, crash, finishing alone and look answer for process p.
+// The view writer, with room for every view of these states.
+fn try_write(m: Machine) {
+    let mut buffer = [0u8; 64];
+    let w = orders::write_views(m, &mut buffer);
+    let answer = w.answer;
+    match answer {
+        WriteAnswer::Done => io::write_all(STDOUT_FILENO, b" 0"),
+        WriteAnswer::NotShaped => io::write_all(STDOUT_FILENO, b" 1"),
+        WriteAnswer::TooShort => io::write_all(STDOUT_FILENO, b" 17"),
+    }
+    ;
+}
+
+// What enter, step, crash, finishing alone and look answer for process p, and the view writer.
 fn try_all(m: Machine, p: u32) {
     try_enter(m, p);
     try_step(m, p);
     try_crash(m, p);
     try_finish(m, p);
     try_look(m, p);
+    try_write(m);
     io::write_all(STDOUT_FILENO, b"\n");
 }
 
