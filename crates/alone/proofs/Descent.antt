@@ -8,7 +8,8 @@ use native.Mathlib.Omega.{arith}
 use lib.Dec.{leb, eqb}
 use lib.Bits.{bitOr, or-lt}
 use borrow.Author.Tests.{le-leb, eq-eqb, ne-eqb}
-use Rattle.sets.specs.Sets.{known, has, size, setOf, upwards}
+use Rattle.sets.specs.Members.{known, has, size}
+use Rattle.sets.specs.Sets.{setOf, upwards}
 use Rattle.sets.proofs.Laws.{either, known-true, unknown-has, members-equal, has-setOf, setOf-below, has-upwards, upwards-below}
 use Rattle.sets.proofs.Bits.{has-or}
 use Rattle.rules.specs.declared.Stage.the-variants.{Running, Finished}
@@ -16,7 +17,8 @@ use Rattle.rules.specs.declared.Process.{Process}
 use Rattle.rules.specs.declared.Machine.{Machine}
 use Rattle.rules.specs.declared.Answer.the-variants.{NoLevelBelow}
 use Rattle.rules.specs.declared.Called.{Called}
-use Rattle.rules.specs.State.{stageOf, valueOf, rowIn, withProcess, withRegister}
+use Rattle.rules.specs.Stands.{stageOf, valueOf, rowIn}
+use Rattle.rules.specs.State.{withProcess, withRegister}
 use Rattle.rules.specs.Shape.{Held}
 use Rattle.rules.specs.Statements.{Valid}
 use Rattle.rules.specs.Calls.{numberOf, done, refused, finishFrom, orAsAtEntry}

@@ -3,7 +3,7 @@ ghost use mathlib.Core.Path.{_≡_};
 ghost use Prim.Native.Nat.{_≤_};
 ghost use mathlib.Core.Bool.{not, _&&_};
 ghost use mathlib.Core.List.{_++_};
-ghost use Rattle.sets.specs.Sets.{has};
+ghost use Rattle.sets.specs.Members.{has};
 ghost use Rattle.text.specs.Parts.{joined};
 ghost use Rattle.findings.specs.Findings.{isFinding, findingNumber, found, only, view, agree, breaks};
 ghost use Rattle.findings.specs.Findings.{ofOnes, ofPairs, firstBreak, firstOf, checkOf};

@@ -2,7 +2,8 @@
 use mathlib.Core.Path.{_≡_, refl, ap, ap₂, _∙_}
 use mathlib.Core.Bool.{Bool, true, _&&_, and-assoc}
 use mathlib.Core.List.{List, [], _∷_, _++_, map}
-use Rattle.sets.specs.Sets.{has, plus, every, count, within, size}
+use Rattle.sets.specs.Members.{has, count, size}
+use Rattle.sets.specs.Sets.{plus, every, within}
 use Rattle.rules.specs.Examples.{table as machineTable, passes as runPasses, allPass as allRunsPass}
 use Rattle.rules.specs.Examples as Runs
 use Rattle.rules.proofs.Laws.Examples.{every-example-passes}

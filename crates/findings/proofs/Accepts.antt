@@ -9,7 +9,7 @@ use native.Mathlib.Decide.{decLt}
 use native.Mathlib.Omega.{arith}
 use lib.Dec.{eqb}
 use borrow.Author.Tests.{eq-eqb, eqb-true}
-use Rattle.sets.specs.Sets.{has}
+use Rattle.sets.specs.Members.{has}
 use Rattle.sets.specs.Immediate.{Inside}
 use Rattle.sets.proofs.Laws.{either, every-true, true-every, has-known}
 use Rattle.formats.specs.declared.Views.{Views}

@@ -9,7 +9,8 @@ use lib.Dec.{eqb}
 use lib.ListN.{getD}
 use lib.Bits.{bitAnd}
 use borrow.Author.Tests.{eq-eqb, ne-eqb, eqb-true}
-use Rattle.sets.specs.Sets.{has, within}
+use Rattle.sets.specs.Members.{has}
+use Rattle.sets.specs.Sets.{within}
 use Rattle.sets.proofs.Laws.{every-true, true-every, every-ext}
 use Rattle.sets.proofs.Bits.{has-and}
 use Rattle.formats.specs.Views.{cell}

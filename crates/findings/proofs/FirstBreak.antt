@@ -6,7 +6,7 @@ use mathlib.Core.Logic.{_≢_, _⊎_, inl, inr, ⊎-elim}
 use mathlib.Core.List.{List, [], _∷_, _++_, map}
 use native.Mathlib.Nat.{eq-or-lt-of-le}
 use native.Mathlib.Omega.{arith}
-use Rattle.sets.specs.Sets.{has}
+use Rattle.sets.specs.Members.{has}
 use Rattle.sets.proofs.Laws.{either, has-known, has-zero}
 use Rattle.formats.specs.declared.Views.{Views}
 use Rattle.formats.specs.Views.{owns, seenBy, noneOf}
@@ -16,7 +16,8 @@ use Rattle.findings.specs.declared.Finding.the-variants.{Nothing, LacksI
 use Rattle.findings.specs.declared.Found.{Found}
 use Rattle.findings.specs.Findings.{found, isFinding, only, viewIn, breaks}
 use Rattle.findings.specs.Findings.{ofOne, ofPair, ofOnes, ofPairs, findings, firstBreak, firstOf, checkOf}
-use Rattle.findings.specs.Properties.{Has, Sees, FirstAlone, FirstPair, YesIsNoFinding, NoViewsAccepted, NamesTheFirst}
+use Rattle.findings.specs.Properties.{Has, Sees, FirstAlone, FirstPair, YesIsNoFinding, NamesTheFirst}
+use Rattle.findings.specs.Statements.{NoViewsAccepted}
 use Rattle.findings.proofs.First.{Real, real-append, real-joined, real-ofOne, real-ofPair, real-ofPairs, first-here, first-later, none-first}
 use Rattle.findings.proofs.Accepts.{joined-parts, joined-empty, pair-empty, empty-pair, one-has, has-one, not-found}
 use Rattle.findings.proofs.Pairs.{sees-exactly, pair-gives, none-given}

@@ -6,7 +6,8 @@ use mathlib.Core.Logic.{_↔_, _≢_, ⊎-elim}
 use mathlib.Core.List.{[], _++_}
 use lib.Dec.{eqb}
 use borrow.Author.Tests.{eqb-false}
-use Rattle.sets.specs.Sets.{has, every}
+use Rattle.sets.specs.Members.{has}
+use Rattle.sets.specs.Sets.{every}
 use Rattle.sets.specs.Immediate.{Inside}
 use Rattle.sets.proofs.Laws.{either}
 use Rattle.formats.specs.declared.Views.{Views}
@@ -14,7 +15,8 @@ use Rattle.formats.specs.Views.{seenBy, valueBy}
 use Rattle.findings.specs.declared.Finding.{Finding}
 use Rattle.findings.specs.declared.Finding.the-variants.{Nothing, LacksItself, Apart, Unlike, Disagree}
 use Rattle.findings.specs.Findings.{isFinding, only, View, viewIn, sameAt, agree, inside, disagree, apart, unlike, breaks, firstBreak}
-use Rattle.findings.specs.Properties.{Pair, Sees, TwoValues, NeitherInside, SeeAndDiffer, TestsOfPairs, DisagreeIsApart, PairGives}
+use Rattle.findings.specs.Properties.{Pair, Sees, TwoValues, NeitherInside, SeeAndDiffer, PairGives}
+use Rattle.findings.specs.Statements.{TestsOfPairs, DisagreeIsApart}
 use Rattle.findings.proofs.First.{no-breaks}
 use Rattle.findings.proofs.Accepts.{is-inside, inside-is, same-value}
 

@@ -21,7 +21,8 @@ use Rattle.findings.specs.declared.Found.{Found}
 use Rattle.findings.specs.declared.FileVerdict.{FileVerdict}
 use Rattle.findings.specs.Findings.{findingNumber, isFinding, findings, checkOf}
 use Rattle.findings.specs.Verdict.{judged, unread, verdictBy, verdictOf}
-use Rattle.findings.specs.Properties.{Obeys, RefusedFirst, ReadThenChecked, VerdictNumbers, EveryVerdictNumbered, YesExactly}
+use Rattle.findings.specs.Properties.{Obeys}
+use Rattle.findings.specs.Statements.{RefusedFirst, ReadThenChecked, VerdictNumbers, EveryVerdictNumbered, YesExactly}
 use Rattle.formats.proofs.WholeFile.{read-place}
 use Rattle.findings.proofs.First.{none-first}
 use Rattle.findings.proofs.Accepts.{accepts-exactly}

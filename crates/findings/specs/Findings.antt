@@ -5,7 +5,8 @@ use mathlib.Core.Bool.{Bool, true, false, not, _&&_, cond}
 use mathlib.Core.List.{List, [], _∷_, _++_, map}
 use lib.Dec.{eqb}
 use lib.ListN.{getD}
-use Rattle.sets.specs.Sets.{has, every}
+use Rattle.sets.specs.Members.{has}
+use Rattle.sets.specs.Sets.{every}
 use Rattle.formats.specs.declared.Views.{Views}
 use Rattle.formats.specs.Views.{owns, seenBy, cell}
 use Rattle.text.specs.Parts.{joined}

@@ -2,4 +2,5 @@
 pub mod Findings
 pub mod Verdict
 pub mod Properties
+pub mod Statements
 pub mod Examples

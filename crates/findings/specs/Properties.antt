@@ -1,20 +1,16 @@
 -- The three properties of section 2.3 of document 002, of the views of a file as sets of (process, value) pairs, and what the checker promises.
 use Prim.Native.Nat.{ℕ, _<_}
-use mathlib.Core.Bool.{true, false}
+use mathlib.Core.Bool.{true}
 use mathlib.Core.Path.{_≡_}
 use mathlib.Core.Logic.{_↔_, _⊎_, _≢_}
-use mathlib.Core.List.{List, []}
-use lib.ListN.{length}
-use Rattle.sets.specs.Sets.{has}
+use mathlib.Core.List.{[]}
+use Rattle.sets.specs.Members.{has}
 use Rattle.sets.specs.Immediate.{Inside, Immediate}
 use Rattle.formats.specs.declared.Views.{Views}
-use Rattle.formats.specs.Numbers.{fileNumber, isWhole}
-use Rattle.formats.specs.Views.{owns, seenBy, valueBy, noneOf}
-use Rattle.formats.specs.ViewFile.{readOf}
+use Rattle.formats.specs.Views.{owns, seenBy, valueBy}
 use Rattle.findings.specs.declared.Finding.{Finding}
 use Rattle.findings.specs.declared.Finding.the-variants.{Nothing, LacksItself, Apart, Unlike, Disagree}
-use Rattle.findings.specs.Findings.{findingNumber, found, viewIn, lacks, disagree, apart, unlike, findings, checkOf}
-use Rattle.findings.specs.Verdict.{judged, unread, verdictOf}
+use Rattle.findings.specs.Findings.{found, findings, checkOf}
 
 -- process i has a view
 abbrev pub Has : Views → ℕ → Type 0
@@ -45,11 +41,6 @@ AcceptsExactly = (v : Views) → (findings v ≡ []) ↔ Obeys v
 abbrev pub YesIsNoFinding : Type 0
 YesIsNoFinding = (v : Views) → (checkOf v ≡ found Nothing 0 0) ↔ (findings v ≡ [])
 
--- "No views at all is accepted": where no process has a view, and so of a file that has none.
-pub record NoViewsAccepted : Type 0 where
-  pub nobody : (v : Views) → ((i : ℕ) → ¬ Has v i) → checkOf v ≡ found Nothing 0 0
-  pub none : (n : ℕ) → checkOf (noneOf n) ≡ found Nothing 0 0
-
 -- Document 01's table, of views as sets of pairs. 20, "a view lacks its own process", is ¬ Sees v i i.
 -- 23: "two views give one process different values"
 pub record TwoValues (v : Views) (i j : ℕ) : Type 0 where
@@ -69,17 +60,6 @@ pub record SeeAndDiffer (v : Views) (i j : ℕ) : Type 0 where
   pub sees : Sees v i j
   pub seen : Sees v j i
   pub differ : ¬ (Inside (Pair v i) (Pair v j) × Inside (Pair v j) (Pair v i))
-
--- the tests of specs/Findings.antt are these
-pub record TestsOfPairs : Type 0 where
-  pub twenty : (v : Views) (i : ℕ) → (lacks (viewIn v i) i ≡ true) ↔ (¬ Sees v i i)
-  pub twenty-one : (v : Views) (i j : ℕ) → (apart (viewIn v i) (viewIn v j) ≡ true) ↔ NeitherInside v i j
-  pub twenty-two : (v : Views) (i j : ℕ) → (unlike (viewIn v i) (viewIn v j) i j ≡ true) ↔ SeeAndDiffer v i j
-  pub twenty-three : (v : Views) (i j : ℕ) → (disagree (viewIn v i) (viewIn v j) ≡ true) ↔ TwoValues v i j
-
--- "so 23 is a break of containment with a number of its own"
-abbrev pub DisagreeIsApart : Type 0
-DisagreeIsApart = (v : Views) (i j : ℕ) → TwoValues v i j → NeitherInside v i j
 
 -- "and otherwise names the first break in the fixed order". First 20: i is the lowest process whose view lacks it.
 pub record FirstAlone (v : Views) (i : ℕ) : Type 0 where
@@ -112,23 +92,3 @@ pub record FirstPair (v : Views) (k : Finding) (i j : ℕ) : Type 0 where
 abbrev pub NamesTheFirst : Type 0
 NamesTheFirst = (v : Views) (k : Finding) (i j : ℕ) → k ≢ Nothing
     → (checkOf v ≡ found k i j) ↔ (((k ≡ LacksItself) × (j ≡ 0) × FirstAlone v i) ⊎ FirstPair v k i j)
-
--- The verdict of a file: the file's own numbers first, and then the checker's answer, with the file's length as the place.
-abbrev pub RefusedFirst : Type 0
-RefusedFirst = (s : List ℕ) → isWhole (readOf s .answer) ≡ false → verdictOf s ≡ unread (fileNumber (readOf s .answer)) (readOf s .place)
-
-abbrev pub ReadThenChecked : Type 0
-ReadThenChecked = (s : List ℕ) → isWhole (readOf s .answer) ≡ true → verdictOf s ≡ judged (length s) (checkOf (readOf s .views))
-
--- Each number exactly: one of 20 to 23 where the file is read and the checker finds it, and one below where the reader gives it.
-pub record VerdictNumbers (s : List ℕ) : Type 0 where
-  pub finding : (k : Finding) → k ≢ Nothing
-      → (verdictOf s .number ≡ findingNumber k) ↔ ((isWhole (readOf s .answer) ≡ true) × (checkOf (readOf s .views) .finding ≡ k))
-  pub refusal : (x : ℕ) → x ≢ 0 → x < 20 → (verdictOf s .number ≡ x) ↔ (fileNumber (readOf s .answer) ≡ x)
-
-abbrev pub EveryVerdictNumbered : Type 0
-EveryVerdictNumbered = (s : List ℕ) → VerdictNumbers s
-
--- 0 exactly for a file that is read and whose views obey the three properties
-abbrev pub YesExactly : Type 0
-YesExactly = (s : List ℕ) → (verdictOf s .number ≡ 0) ↔ ((isWhole (readOf s .answer) ≡ true) × Obeys (readOf s .views))

@@ -8,7 +8,7 @@ use native.Mathlib.Omega.{arith}
 use lib.ListN.{length, length-append}
 use lib.Seq.{getD-append-add}
 use lib.Pow.{shr-shr, shr-lt}
-use Rattle.sets.specs.Sets.{has, tick, count}
+use Rattle.sets.specs.Members.{has, tick, count}
 use Rattle.formats.specs.declared.Views.{Views}
 use Rattle.formats.specs.Records.{byteAt, wordAt, wordBytes}
 use Rattle.formats.specs.Views.{seenBy, valueBy}

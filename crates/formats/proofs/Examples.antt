@@ -1,6 +1,7 @@
 -- The examples of specs/Examples, computed.
 use mathlib.Core.Path.{refl}
-use Rattle.sets.specs.Sets.{has, plus, first, every, count, within, size}
+use Rattle.sets.specs.Members.{has, count, size}
+use Rattle.sets.specs.Sets.{plus, first, every, within}
 use Rattle.text.specs.Parts.{joined}
 use Rattle.formats.specs.Records.{markOf, markAt, headerOf, orderAt, viewAt}
 use Rattle.formats.specs.ViewFile.{viewBytes, fileOf, testedAt, valuesRead, readFrom, readOf}

@@ -7,11 +7,13 @@ use mathlib.Core.List.{List}
 use native.Mathlib.Omega.{arith}
 use lib.Dec.{leb}
 use borrow.Author.Tests.{leb-true}
-use Rattle.sets.specs.Sets.{has, first, known, count}
+use Rattle.sets.specs.Members.{has, known, count}
+use Rattle.sets.specs.Sets.{first}
 use Rattle.sets.proofs.Laws.{either, has-zero, has-first, within-true}
 use Rattle.formats.specs.declared.Views.{Views}
 use Rattle.formats.specs.Records.{wordAt}
-use Rattle.formats.specs.Views.{owns, seenBy, valueBy, InRange}
+use Rattle.formats.specs.Views.{owns, seenBy, valueBy}
+use Rattle.formats.specs.Range.{InRange}
 use Rattle.formats.specs.Table.{processAt, setAt, Carried}
 use Rattle.formats.specs.Promises.{Bytes}
 use Rattle.formats.proofs.Walked.{Walked, Named, in-viewed, walked-some, walked-most, walked-carried, walked-named}

@@ -7,7 +7,8 @@ use native.Mathlib.Omega.{arith}
 use lib.Dec.{leb}
 use lib.ListN.{length}
 use borrow.Author.Tests.{leb-true}
-use Rattle.sets.specs.Sets.{has, first, within, size}
+use Rattle.sets.specs.Members.{has, size}
+use Rattle.sets.specs.Sets.{first, within}
 use Rattle.formats.specs.declared.FileAnswer.{FileAnswer}
 use Rattle.formats.specs.declared.FileAnswer.the-variants.{OutOfRange, NoProcess, SecondView, NamesAbove, BodyCut}
 use Rattle.formats.specs.declared.Mark.{Mark}

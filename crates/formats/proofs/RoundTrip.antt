@@ -8,15 +8,17 @@ use native.Mathlib.Omega.{arith}
 use lib.Dec.{leb}
 use lib.ListN.{length, length-append, length-replicate, length-set}
 use borrow.Author.Tests.{le-leb, lt-leb}
-use Rattle.sets.specs.Sets.{has, plus, first, within, count, size}
+use Rattle.sets.specs.Members.{has, count, size}
+use Rattle.sets.specs.Sets.{plus, first, within}
 use Rattle.sets.proofs.Laws.{either, has-known, has-zero, true-known, members-equal, has-plus-same, has-plus-other, plus-below, has-first, true-within}
 use Rattle.formats.specs.declared.ViewRecord.the-variants.{View}
 use Rattle.formats.specs.declared.Views.{Views}
 use Rattle.formats.specs.Records.{byteAt, wordAt, wordBytes}
-use Rattle.formats.specs.Views.{owns, seenBy, valueBy, cell, noneOf, InRange}
+use Rattle.formats.specs.Views.{owns, seenBy, valueBy, cell, noneOf}
+use Rattle.formats.specs.Range.{InRange, ReadsBack}
 use Rattle.text.specs.Parts.{joined}
 use Rattle.formats.specs.ViewFile.{valueBytes, viewBytes, fileOf, testedAt, withView, readWhole, readFrom, readBy, readOf}
-use Rattle.formats.specs.Promises.{Bytes, ReadsBack, WritesBytes}
+use Rattle.formats.specs.Promises.{Bytes, WritesBytes}
 use Rattle.formats.proofs.Tests.{leb-same}
 use Rattle.formats.proofs.Values.{values-length, Room, seen-here, seen-other, value-in, value-out, value-other, by-place, by-cell, zeros, by-one}
 use Rattle.formats.proofs.Turns.{read-end, read-view}

@@ -8,7 +8,8 @@ use native.Mathlib.Omega.{arith}
 use lib.Dec.{leb, ltb, eqb}
 use lib.ListN.{length}
 use borrow.Author.Tests.{leb-true, leb-false, eqb-true, le-leb, lt-leb, lt-ltb, le-ltb, eq-eqb, ne-eqb}
-use Rattle.sets.specs.Sets.{has, first, within, size}
+use Rattle.sets.specs.Members.{has, size}
+use Rattle.sets.specs.Sets.{first, within}
 use Rattle.sets.proofs.Laws.{either, same-truth}
 use Rattle.formats.specs.declared.FileAnswer.{FileAnswer}
 use Rattle.formats.specs.declared.FileAnswer.the-variants.{OutOfRange, NotHeader, OtherMark, MarkCut, BodyCut, HeaderAgain}

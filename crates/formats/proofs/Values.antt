@@ -10,7 +10,7 @@ use native.Mathlib.Numerals.{add-one}
 use native.Mathlib.Omega.{arith}
 use lib.ListN.{length, getD, set, replicate, length-set}
 use lib.Seq.{getD-set-same, getD-set-other, ext-getD}
-use Rattle.sets.specs.Sets.{has, tick, count}
+use Rattle.sets.specs.Members.{has, tick, count}
 use Rattle.formats.specs.Records.{wordAt}
 use Rattle.formats.specs.declared.Views.{Views}
 use Rattle.formats.specs.Views.{cell, seenBy, valueBy}

@@ -9,7 +9,8 @@ use native.Mathlib.Omega.{arith}
 use lib.Dec.{eqb}
 use lib.ListN.{length, length-replicate, length-set}
 use borrow.Author.Tests.{eqb-true, eq-eqb, ne-eqb}
-use Rattle.sets.specs.Sets.{has, plus, first, within, count, size}
+use Rattle.sets.specs.Members.{has, count, size}
+use Rattle.sets.specs.Sets.{plus, first, within}
 use Rattle.sets.specs.Lines.{firstThat}
 use Rattle.sets.proofs.Laws.{either, has-known, has-zero, members-equal, has-plus-same, has-plus-other, plus-below}
 use Rattle.formats.specs.declared.Header.{Header}

@@ -9,7 +9,7 @@ use native.Mathlib.Nat.{eq-or-lt-of-le}
 use native.Mathlib.Omega.{arith}
 use lib.ListN.{length}
 use borrow.Author.Tests.{eqb-true}
-use Rattle.sets.specs.Sets.{size}
+use Rattle.sets.specs.Members.{size}
 use Rattle.formats.specs.declared.FileAnswer.{FileAnswer}
 use Rattle.formats.specs.declared.Header.{Header}
 use Rattle.formats.specs.declared.ViewRecord.{ViewRecord}
@@ -18,7 +18,8 @@ use Rattle.formats.specs.declared.Views.{Views}
 use Rattle.formats.specs.declared.ViewsRead.{ViewsRead}
 use Rattle.formats.specs.Numbers.{fileNumber, isWhole}
 use Rattle.formats.specs.Records.{headerOf}
-use Rattle.formats.specs.Views.{noneOf, InRange}
+use Rattle.formats.specs.Views.{noneOf}
+use Rattle.formats.specs.Range.{InRange}
 use Rattle.formats.specs.ViewFile.{testedAt, withView, refusedAt, readWhole, readNext, readFrom, readBy, readOf}
 use Rattle.sets.specs.Lines.{firstThat}
 use Rattle.formats.specs.Table.{recordLines, Reached, Refusal, RefusedExactly, ReadExactly}

@@ -3,6 +3,7 @@ pub mod Numbers
 pub mod Records
 pub mod Views
 pub mod ViewFile
+pub mod Range
 pub mod Table
 pub mod Promises
 pub mod Examples

@@ -7,16 +7,13 @@ use lib.ListN.{length}
 use Rattle.formats.specs.declared.Views.{Views}
 use Rattle.formats.specs.Numbers.{isWhole}
 use Rattle.formats.specs.Records.{byteAt}
-use Rattle.formats.specs.Views.{InRange, noneOf}
-use Rattle.formats.specs.ViewFile.{fileOf, readWhole, readOf}
+use Rattle.formats.specs.Range.{InRange}
+use Rattle.formats.specs.Views.{noneOf}
+use Rattle.formats.specs.ViewFile.{fileOf, readOf}
 
 -- A list of bytes. What a function is handed as a slice is one (`slice-bytes` of proofs/Typed), so a promise that asks for it leaves no file out.
 abbrev pub Bytes : List ℕ → Type 0
 Bytes s = (i : ℕ) → byteAt s i < 256
-
--- "A written view file reads back as the same views": for all views that a file can carry
-abbrev pub ReadsBack : Type 0
-ReadsBack = (v : Views) → InRange v → readOf (fileOf v) ≡ readWhole (fileOf v) v
 
 -- and what is written is bytes
 abbrev pub WritesBytes : Type 0

@@ -27,15 +27,15 @@ abbrev pub isMark : ℕ → ℕ → ℕ → ℕ → Bool
 isMark a b x y = eqb x a && eqb y b
 
 -- "Marks are ASCII": the two bytes x and y read as a mark
-abbrev pub reads : String → ℕ → ℕ → Bool
-reads mark x y = isMark (code (charAt mark 0)) (code (charAt mark 1)) x y
+abbrev pub spells : String → ℕ → ℕ → Bool
+spells mark x y = isMark (code (charAt mark 0)) (code (charAt mark 1)) x y
 
 unfoldable pub markOf : ℕ → ℕ → Mark
 markOf x y =
-    cond (reads "MN" x y) Mark.Header
-    (cond (reads "EN" x y) Mark.Enter
-    (cond (reads "ST" x y) Mark.Step
-    (cond (reads "CR" x y) Mark.Crash (cond (reads "VW" x y) Mark.View Mark.Other))))
+    cond (spells "MN" x y) Mark.Header
+    (cond (spells "EN" x y) Mark.Enter
+    (cond (spells "ST" x y) Mark.Step
+    (cond (spells "CR" x y) Mark.Crash (cond (spells "VW" x y) Mark.View Mark.Other))))
 
 -- what stands at a record's place: nothing left, one byte left, or a mark
 unfoldable pub markAt : List ℕ → ℕ → Mark

@@ -7,11 +7,12 @@ use mathlib.Core.Logic.{_⊎_, _↔_, _≢_}
 use mathlib.Core.List.{List, [], _∷_, List·Memᴰ}
 use lib.Dec.{leb, ltb, eqb}
 use lib.ListN.{length}
-use Rattle.sets.specs.Sets.{has, first, within, count, size}
+use Rattle.sets.specs.Members.{has, count, size}
+use Rattle.sets.specs.Sets.{first, within}
 use Rattle.sets.specs.Lines.{Line, when, firstThat}
 use Rattle.formats.specs.declared.Views.{Views}
 use Rattle.formats.specs.Numbers.{fileNumber}
-use Rattle.formats.specs.Records.{byteAt, wordAt, reads}
+use Rattle.formats.specs.Records.{byteAt, wordAt, spells}
 use Rattle.formats.specs.Views.{owns, seenBy, valueBy}
 use Rattle.formats.specs.ViewFile.{readWhole, readOf}
 
@@ -20,7 +21,7 @@ abbrev pub headerLines : List ℕ → List Line
 headerLines s =
     when 9 (eqb (length s) 0)
     ∷ when 11 (eqb (length s) 1)
-    ∷ when 9 (not (reads "MN" (byteAt s 0) (byteAt s 1)))
+    ∷ when 9 (not (spells "MN" (byteAt s 0) (byteAt s 1)))
     ∷ when 11 (ltb (length s) 3)
     ∷ when 8 (not (leb 1 (byteAt s 2) && leb (byteAt s 2) 32))
     ∷ []
@@ -48,8 +49,8 @@ viewed s p (at ∷ places) = eqb (processAt s at) p || viewed s p places
 abbrev pub recordLines : List ℕ → ℕ → List ℕ → List Line
 recordLines s at before =
     when 11 (eqb (length s) (at + 1))
-    ∷ when 12 (reads "MN" (byteAt s at) (byteAt s (at + 1)))
-    ∷ when 10 (not (reads "VW" (byteAt s at) (byteAt s (at + 1))))
+    ∷ when 12 (spells "MN" (byteAt s at) (byteAt s (at + 1)))
+    ∷ when 10 (not (spells "VW" (byteAt s at) (byteAt s (at + 1))))
     ∷ when 11 (ltb (length s) (at + 7))
     ∷ when 14 (not (leb 1 (processAt s at) && leb (processAt s at) (byteAt s 2)))
     ∷ when 15 (viewed s (processAt s at) before)

@@ -4,7 +4,8 @@ use mathlib.Core.Bool.{Bool, not, _&&_, cond}
 use mathlib.Core.List.{List, [], _∷_, _++_}
 use lib.Dec.{leb}
 use lib.ListN.{length, set}
-use Rattle.sets.specs.Sets.{has, plus, first, within, count, size}
+use Rattle.sets.specs.Members.{has, count, size}
+use Rattle.sets.specs.Sets.{plus, first, within}
 use Rattle.formats.specs.declared.FileAnswer.{FileAnswer}
 use Rattle.formats.specs.declared.FileAnswer.the-variants.{Whole, BodyCut, NoProcess, SecondView, NamesAbove}
 use Rattle.formats.specs.declared.Header.{Header}

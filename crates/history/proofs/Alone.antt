@@ -7,11 +7,12 @@ use Prim.Native.Nat.{ℕ, zero, suc, _+_, _-_, _*_, _≤_}
 use native.Mathlib.Omega.{arith}
 use lib.ListN.{replicate, replicate-append-replicate}
 use borrow.Author.Tests.{eq-eqb}
-use Rattle.sets.specs.Sets.{tick}
+use Rattle.sets.specs.Members.{tick}
 use Rattle.rules.specs.declared.Stage.{Stage}
 use Rattle.rules.specs.declared.Stage.the-variants.{Absent, Running, Finished, Crashed}
 use Rattle.rules.specs.declared.Machine.{Machine}
-use Rattle.rules.specs.State.{stageOf, entered, finished, crashed, accessesOf}
+use Rattle.rules.specs.Stands.{stageOf, entered}
+use Rattle.rules.specs.State.{finished, crashed, accessesOf}
 use Rattle.rules.specs.Calls.{numberOf, accepted, fresh, stepOf, crashOf, stepsOf, finishOf}
 use Rattle.rules.specs.Numbers.{crashLines}
 use Rattle.rules.specs.Statements.{Meets, Valid, none, Finishes, Sticks}

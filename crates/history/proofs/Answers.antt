@@ -6,14 +6,14 @@ use Prim.Native.Nat.{ℕ, _+_, _-_, _≤_}
 use native.Mathlib.Omega.{arith}
 use lib.Dec.{leb, eqb}
 use borrow.Author.Tests.{leb-true, eq-eqb, ne-eqb, eqb-true}
-use Rattle.sets.specs.Sets.{has, count, size}
+use Rattle.sets.specs.Members.{has, count, size}
 use Rattle.sets.proofs.Laws.{count-one-less}
 use Rattle.rules.specs.declared.Stage.{Stage}
 use Rattle.rules.specs.declared.Stage.the-variants.{Absent, Running, Finished, Crashed}
 use Rattle.rules.specs.declared.Machine.{Machine}
 use Rattle.rules.specs.declared.Called.{Called}
 use Rattle.rules.specs.declared.Answer.the-variants.{NotShaped, NoProcess}
-use Rattle.rules.specs.State.{stageOf, valueOf, rowOf, entered}
+use Rattle.rules.specs.Stands.{stageOf, valueOf, rowOf, entered}
 use Rattle.rules.specs.Shape.{Shaped, shaped}
 use Rattle.rules.specs.Calls.{numberOf, accepted, refused, tested, enterAt, enterOf, crashAt, crashOf, stepAt, stepOf}
 use Rattle.rules.specs.Statements.{Valid}

@@ -4,11 +4,11 @@ use mathlib.Core.Path.{_≡_, refl, ap, _∙_}
 use mathlib.Core.Bool.{Bool}
 use mathlib.Core.List.{List, [], _∷_}
 use Prim.Native.Nat.{ℕ, _+_}
-use Rattle.sets.specs.Sets.{tick}
+use Rattle.sets.specs.Members.{tick}
 use Rattle.rules.specs.declared.Machine.{Machine}
 use Rattle.rules.specs.declared.Called.{Called}
 use Rattle.rules.specs.declared.Answer.the-variants.{NotShaped}
-use Rattle.rules.specs.State.{stageOf}
+use Rattle.rules.specs.Stands.{stageOf}
 use Rattle.rules.specs.Shape.{shaped}
 use Rattle.rules.specs.Calls.{accepted, refused, enterAt, enterOf, crashAt, crashOf}
 use Rattle.rules.specs.Statements.{Meets}

@@ -9,11 +9,12 @@ use native.Mathlib.Omega.{arith}
 use lib.Dec.{eqb}
 use lib.ListN.{length}
 use borrow.Author.Tests.{eq-eqb, ne-eqb}
-use Rattle.sets.specs.Sets.{tick, size}
+use Rattle.sets.specs.Members.{tick, size}
 use Rattle.rules.specs.declared.Stage.{Stage}
 use Rattle.rules.specs.declared.Stage.the-variants.{Absent, Running, Finished, Crashed}
 use Rattle.rules.specs.declared.Machine.{Machine}
-use Rattle.rules.specs.State.{stageOf, rowOf, finished, accessesOf, foundOf}
+use Rattle.rules.specs.Stands.{stageOf, rowOf}
+use Rattle.rules.specs.State.{finished, accessesOf, foundOf}
 use Rattle.rules.specs.Shape.{ShapedStage}
 use Rattle.rules.specs.Calls.{accepted, fresh, stepOf}
 use Rattle.rules.specs.Statements.{Meets, Valid}

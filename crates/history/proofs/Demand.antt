@@ -8,7 +8,7 @@ use native.Mathlib.Omega.{arith}
 use lib.Dec.{eqb}
 use lib.ListN.{length, replicate}
 use borrow.Author.Tests.{eq-eqb, ne-eqb, eqb-true}
-use Rattle.sets.specs.Sets.{count, size}
+use Rattle.sets.specs.Members.{count, size}
 use Rattle.sets.specs.Immediate.{Inside, Immediate}
 use Rattle.sets.proofs.Laws.{same-truth, count-mono}
 use Rattle.rules.specs.declared.Stage.{Stage}
@@ -19,7 +19,8 @@ use Rattle.rules.proofs.Laws.Did.{what-calls-did}
 use Rattle.rules.proofs.Laws.Effects.{effects-of-calls}
 use Rattle.rules.proofs.Laws.Keeps.{every-state-meets}
 use Rattle.rules.proofs.Laws.Small.{or-true, or-left, or-right}
-use Rattle.rules.specs.State.{stageOf, valueOf, rowOf, entered, finished, crashed, levelOf, foundOf}
+use Rattle.rules.specs.Stands.{stageOf, valueOf, rowOf, entered}
+use Rattle.rules.specs.State.{finished, crashed, levelOf, foundOf}
 use Rattle.rules.specs.Shape.{Going, ShapedStage}
 use Rattle.rules.specs.Calls.{fresh}
 use Rattle.rules.specs.Statements.{Meets}

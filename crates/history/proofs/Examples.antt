@@ -7,7 +7,8 @@ use lib.Dec.{lit≤}
 use Rattle.rules.specs.declared.Machine.{Machine}
 use Rattle.rules.specs.Calls.{fresh}
 use Rattle.world.specs.Programs.{accesses}
-use Rattle.world.specs.Calls.{leaves, counts, ever, deposits, admits}
+use Rattle.world.specs.Calls.{leaves, counts, ever, deposits}
+use Rattle.world.specs.Counts.{admits}
 use Rattle.world.specs.World.{World, start, worldTaker}
 use Rattle.world.proofs.Follows.{same-counts, same-deposits, same-admits}
 use Rattle.history.specs.Runs.{Call, enters, machineTaker, runs, tally, acceptedStepOf, acceptedStep, isAccepted, isRefused, reached, given, hasEntered}

@@ -9,12 +9,13 @@ use native.Mathlib.Omega.{arith}
 use lib.Dec.{eqb}
 use lib.ListN.{length, getD, length-append}
 use borrow.Author.Tests.{eq-eqb, ne-eqb, lt-leb}
-use Rattle.sets.specs.Sets.{has, tick, count, size}
+use Rattle.sets.specs.Members.{has, tick, count, size}
 use Rattle.sets.proofs.Laws.{has-zero, has-known}
 use Rattle.rules.specs.declared.Stage.{Stage}
 use Rattle.rules.specs.declared.Stage.the-variants.{Absent, Running, Finished, Crashed}
 use Rattle.rules.specs.declared.Machine.{Machine}
-use Rattle.rules.specs.State.{processOf, stageOf, valueOf, rowIn, rowOf, cellOf, finished, crashed, levelOf, madeOf, foundOf, wrote}
+use Rattle.rules.specs.Stands.{processOf, stageOf, valueOf, rowIn, rowOf, cellOf}
+use Rattle.rules.specs.State.{finished, crashed, levelOf, madeOf, foundOf, wrote}
 use Rattle.rules.specs.Shape.{Held, Going, Ended, ShapedStage, Shaped}
 use Rattle.rules.specs.Calls.{accepted, stepOf, enterOf, crashOf, reading}
 use Rattle.rules.specs.Statements.{Valid, OthersStay, RegistersStay, StepEffect, EnterEffect, CrashEffect, atLast}

@@ -4,10 +4,11 @@ use mathlib.Core.Logic.{_⊎_, inl, inr, _≢_}
 use mathlib.Core.Bool.{Bool, true, false, cond, false≢true}
 use Prim.Native.Nat.{ℕ, _≤_, _<_}
 use native.Mathlib.Omega.{arith}
-use Rattle.sets.specs.Sets.{has, plus, count, size}
+use Rattle.sets.specs.Members.{has, count, size}
+use Rattle.sets.specs.Sets.{plus}
 use Rattle.sets.proofs.Laws.{has-plus-same, has-plus-other, has-plus-keeps, has-known, count-beyond}
 use Rattle.rules.specs.declared.Machine.{Machine}
-use Rattle.rules.specs.State.{rowOf}
+use Rattle.rules.specs.Stands.{rowOf}
 use Rattle.rules.specs.Shape.{Going, Shaped}
 use Rattle.rules.specs.Calls.{reading}
 use Rattle.rules.proofs.Laws.Keeps.{reading-has}

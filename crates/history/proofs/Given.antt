@@ -7,7 +7,7 @@ use native.Mathlib.Omega.{arith}
 use lib.Dec.{eqb}
 use borrow.Author.Tests.{eq-eqb}
 use Rattle.rules.specs.declared.Machine.{Machine}
-use Rattle.rules.specs.State.{stageOf, valueOf, entered}
+use Rattle.rules.specs.Stands.{stageOf, valueOf, entered}
 use Rattle.rules.specs.Calls.{accepted, fresh, enterOf, stepOf, crashOf}
 use Rattle.rules.specs.Statements.{Meets}
 use Rattle.rules.proofs.Laws.Small.{not-both}
@@ -18,7 +18,8 @@ use Rattle.history.specs.Runs.{Call, enters, steps, crashes, answer, aft
 use Rattle.history.specs.Theorems.{EnteredByCall}
 use Rattle.history.proofs.Moves.{gives, givenFrom, nobody-yet, meets-after, stepped, by-call}
 use Rattle.history.proofs.Levels.{step-falls, crashed-entered}
-use Rattle.world.specs.Calls.{leaves, deposits, admits}
+use Rattle.world.specs.Calls.{leaves, deposits}
+use Rattle.world.specs.Counts.{admits}
 
 -- whoever has entered keeps its value
 keeps : (n : ℕ) (m : Machine) → Meets n m → (p : ℕ) → 1 ≤ p → entered (stageOf m p) ≡ true → (c : Call)

@@ -8,12 +8,13 @@ use Prim.Native.Nat.{ℕ, zero, suc, _+_, _-_, _≤_, _<_}
 use native.Mathlib.Omega.{arith}
 use lib.Dec.{leb}
 use borrow.Author.Tests.{leb-true, le-leb, lt-leb}
-use Rattle.sets.specs.Sets.{has, count, size}
+use Rattle.sets.specs.Members.{has, count, size}
 use Rattle.sets.proofs.Laws.{count-ext, count-le, count-mono, count-one-less}
 use Rattle.rules.specs.declared.Stage.{Stage}
 use Rattle.rules.specs.declared.Stage.the-variants.{Absent, Running, Finished, Crashed}
 use Rattle.rules.specs.declared.Machine.{Machine}
-use Rattle.rules.specs.State.{stageOf, rowIn, rowOf, entered, levelOf, madeOf, foundOf, wrote}
+use Rattle.rules.specs.Stands.{stageOf, rowIn, rowOf, entered}
+use Rattle.rules.specs.State.{levelOf, madeOf, foundOf, wrote}
 use Rattle.rules.specs.Shape.{Going, ShapedStage, Shaped}
 use Rattle.rules.specs.Calls.{accepted, fresh, stepOf, reading}
 use Rattle.rules.specs.Statements.{Meets, Valid, StepEffect, OthersStay, atLast}

@@ -7,12 +7,13 @@ use Prim.Native.Nat.{ℕ, _-_, _≤_}
 use native.Mathlib.Omega.{arith}
 use lib.Dec.{leb, eqb}
 use borrow.Author.Tests.{leb-true, le-leb, eqb-true, eq-eqb}
-use Rattle.sets.specs.Sets.{count}
+use Rattle.sets.specs.Members.{count}
 use Rattle.sets.proofs.Laws.{count-mono}
 use Rattle.rules.specs.declared.Stage.{Stage}
 use Rattle.rules.specs.declared.Stage.the-variants.{Absent, Running, Finished, Crashed}
 use Rattle.rules.specs.declared.Machine.{Machine}
-use Rattle.rules.specs.State.{stageOf, entered, crashed, levelOf}
+use Rattle.rules.specs.Stands.{stageOf, entered}
+use Rattle.rules.specs.State.{crashed, levelOf}
 use Rattle.rules.specs.Calls.{fresh, stepOf, crashOf}
 use Rattle.rules.specs.Statements.{Meets}
 use Rattle.rules.proofs.Laws.Small.{not-both, and-first, and-second, both, or-true, or-left, or-right}

@@ -5,11 +5,12 @@ use mathlib.Core.Bool.{true, cond, false≢true}
 use Prim.Native.Nat.{ℕ, _+_, _-_}
 use native.Mathlib.Omega.{arith}
 use lib.ListN.{getD}
-use Rattle.sets.specs.Sets.{has}
+use Rattle.sets.specs.Members.{has}
 use Rattle.sets.proofs.Laws.{has-known}
 use Rattle.rules.specs.declared.Stage.{Stage}
 use Rattle.rules.specs.declared.Stage.the-variants.{Absent, Running, Finished, Crashed}
-use Rattle.rules.specs.State.{stageOf, rowOf, cellOf, finished, levelOf, foundOf}
+use Rattle.rules.specs.Stands.{stageOf, rowOf, cellOf}
+use Rattle.rules.specs.State.{finished, levelOf, foundOf}
 use Rattle.rules.specs.Shape.{Ended, ShapedStage}
 use Rattle.rules.specs.Calls.{rowValues, looked, lookOf}
 use Rattle.rules.proofs.Laws.Small.{cond-true}

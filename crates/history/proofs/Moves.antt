@@ -8,11 +8,12 @@ use Prim.Native.Nat.{ℕ, zero, suc, _+_, _-_, _≤_, _<_}
 use lib.Dec.{eqb}
 use lib.ListN.{getD, replicate}
 use borrow.Author.Tests.{ne-eqb}
-use Rattle.sets.specs.Sets.{size}
+use Rattle.sets.specs.Members.{size}
 use Rattle.rules.specs.declared.Stage.the-variants.{Running, Finished}
 use Rattle.rules.specs.declared.Process.{Process}
 use Rattle.rules.specs.declared.Machine.{Machine}
-use Rattle.rules.specs.State.{nobody, processOf, stageOf, valueOf, rowOf, withProcess, withRegister}
+use Rattle.rules.specs.Stands.{nobody, processOf, stageOf, valueOf, rowOf}
+use Rattle.rules.specs.State.{withProcess, withRegister}
 use Rattle.rules.specs.Shape.{Held}
 use Rattle.rules.specs.Calls.{accepted, fresh, enterOf, stepOf, crashOf, reading}
 use Rattle.rules.specs.Statements.{Meets, Valid, atLast}

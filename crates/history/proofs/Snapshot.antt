@@ -4,13 +4,15 @@ use mathlib.Core.Logic.{_⊎_, inl, inr}
 use mathlib.Core.Bool.{true, false≢true}
 use Prim.Native.Nat.{ℕ, _+_, _-_, _≤_, _<_}
 use native.Mathlib.Omega.{arith}
-use Rattle.sets.specs.Sets.{has, count, within}
+use Rattle.sets.specs.Members.{has, count}
+use Rattle.sets.specs.Sets.{within}
 use Rattle.sets.specs.Immediate.{Inside, Immediate}
 use Rattle.sets.proofs.Laws.{same-truth, has-zero, has-known, members-equal, count-mono, count-same, true-within}
 use Rattle.rules.specs.declared.Stage.{Stage}
 use Rattle.rules.specs.declared.Stage.the-variants.{Absent, Running, Finished, Crashed}
 use Rattle.rules.specs.declared.Machine.{Machine}
-use Rattle.rules.specs.State.{stageOf, valueOf, rowOf, cellOf, entered, finished, levelOf, foundOf}
+use Rattle.rules.specs.Stands.{stageOf, valueOf, rowOf, cellOf, entered}
+use Rattle.rules.specs.State.{finished, levelOf, foundOf}
 use Rattle.rules.specs.Shape.{Ended, ShapedStage, Shaped}
 use Rattle.rules.proofs.Laws.Small.{not-both, at-most-or-above}
 use Rattle.rules.proofs.Laws.Wrote.{lowestRow}

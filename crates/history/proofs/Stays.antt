@@ -5,13 +5,14 @@ use mathlib.Core.Bool.{Bool, true, false, cond}
 use mathlib.Core.List.{List, [], _∷_}
 use Prim.Native.Nat.{ℕ, _≤_}
 use native.Mathlib.Omega.{arith}
-use Rattle.sets.specs.Sets.{has}
+use Rattle.sets.specs.Members.{has}
 use Rattle.rules.specs.declared.Machine.{Machine}
 use Rattle.rules.specs.declared.Process.{Process}
 use Rattle.rules.specs.declared.Stage.{Stage}
 use Rattle.rules.specs.declared.Stage.the-variants.{Absent, Running, Finished, Crashed}
 use Rattle.rules.specs.declared.Called.{Called}
-use Rattle.rules.specs.State.{processOf, stageOf, valueOf, rowOf, cellOf, finished, crashed, levelOf, madeOf, foundOf}
+use Rattle.rules.specs.Stands.{processOf, stageOf, valueOf, rowOf, cellOf}
+use Rattle.rules.specs.State.{finished, crashed, levelOf, madeOf, foundOf}
 use Rattle.rules.specs.Shape.{ShapedStage}
 use Rattle.rules.specs.Calls.{accepted, fresh, enterOf, stepOf, crashOf}
 use Rattle.rules.specs.Statements.{Meets, StepEffect}

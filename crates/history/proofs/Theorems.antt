@@ -1,9 +1,10 @@
 -- What specs/Theorems states, each under its own name.
-use Rattle.history.specs.Theorems.{CallIsFigures, EveryRunIsFigure, ViewIsReturned, LookShowsView, EveryStateShaped, NeverOneNorSeven}
+use Rattle.history.specs.Theorems.{CallIsFigures, ViewIsReturned, LookShowsView, EveryStateShaped, NeverOneNorSeven}
 use Rattle.history.specs.Theorems.{AloneNeverOneNorSeven, AtMostXReachX, ReachedIsBegun}
 use Rattle.history.specs.Theorems.{ThreeProperties, ThreePropertiesOfSets, ViewsAreGiven, ExactSteps, EnoughSteps}
 use Rattle.history.specs.Theorems.{AccessesCounted, WaitFree, CrashedStays, FinishedStays, WrittenStays}
 use Rattle.history.specs.Theorems.{AloneFinishes, CountsOfRuns, EnteredByCall}
+use Rattle.history.specs.IsFigure.{EveryRunIsFigure}
 use Rattle.history.specs.Demand.{EveryRunDemandThree}
 use Rattle.history.proofs.Moves
 use Rattle.history.proofs.Counts

@@ -11,7 +11,7 @@ use Rattle.rules.specs.declared.Stage.{Stage}
 use Rattle.rules.specs.declared.Stage.the-variants.{Absent, Running, Finished, Crashed}
 use Rattle.rules.specs.declared.Machine.{Machine}
 use Rattle.rules.specs.declared.Process.{Process}
-use Rattle.rules.specs.State.{processOf, stageOf, valueOf, rowOf, cellOf, entered}
+use Rattle.rules.specs.Stands.{processOf, stageOf, valueOf, rowOf, cellOf, entered}
 use Rattle.rules.specs.Shape.{Held, Going, ShapedStage, Shaped}
 use Rattle.rules.specs.Calls.{accepted, fresh, enterOf, stepOf, crashOf}
 use Rattle.rules.specs.Statements.{Meets, Valid}
@@ -27,12 +27,13 @@ use Rattle.world.proofs.Follows.{Follows, kept, same-leaves}
 use Rattle.history.specs.Runs.{Call, enters, steps, crashes, answer, after, machineTaker, runs}
 use Rattle.history.specs.Figure.{Address, REG, sameAddress, Pair, Code, update-snapshot, figure}
 use Rattle.history.specs.AsWorld.{register, programAt, programOf, worldOf}
-use Rattle.history.specs.Theorems.{FiguresCall, CallIsFigures, EveryRunIsFigure}
+use Rattle.history.specs.Theorems.{FiguresCall, CallIsFigures}
+use Rattle.history.specs.IsFigure.{EveryRunIsFigure}
 use Rattle.history.specs.Demand.{figureRuns}
 use Rattle.history.proofs.Moves.{stepped, meets-after, every-state-shaped, blank, nobody-yet}
 use Rattle.history.proofs.Invariant.{Inv, inv-after, inv-fresh}
 use Rattle.history.proofs.Answers.{step-accesses}
-use Rattle.sets.specs.Sets.{has}
+use Rattle.sets.specs.Members.{has}
 use Rattle.sets.proofs.Laws.{has-zero, same-truth}
 use Rattle.history.proofs.Figure.{REGS, FirstAccess, rec-writes, running-reads, step-is-first-access, enter-is-start, crash-is-end, program-goes}
 use Rattle.history.proofs.Levels.{step-falls, crashed-entered}

@@ -2,11 +2,11 @@
 use mathlib.Core.Bool.{Bool, true, false, _&&_, cond}
 use mathlib.Core.List.{List, [], _∷_, _++_}
 use Prim.Native.Nat.{ℕ, zero, suc, _-_}
-use Rattle.sets.specs.Sets.{has}
+use Rattle.sets.specs.Members.{has}
 use Rattle.rules.specs.declared.Stage.{Stage}
 use Rattle.rules.specs.declared.Stage.the-variants.{Absent, Running, Finished, Crashed}
 use Rattle.rules.specs.declared.Machine.{Machine}
-use Rattle.rules.specs.State.{stageOf, valueOf, rowOf, cellOf, entered}
+use Rattle.rules.specs.Stands.{stageOf, valueOf, rowOf, cellOf, entered}
 use Rattle.world.specs.Programs.{Register, empty, holds, returns, halted}
 use Rattle.world.specs.World.{World, among}
 use Rattle.history.specs.Figure.{Address, Pair, Code, collect, pairs, judge, rec-update-snapshot}

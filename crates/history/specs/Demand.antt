@@ -7,7 +7,7 @@ use mathlib.Core.List.{List, _++_, List·Memᴰ}
 use Prim.Native.Nat.{ℕ, _+_, _-_, _*_, _≤_}
 use lib.Dec.{eqb}
 use lib.ListN.{length, replicate}
-use Rattle.sets.specs.Sets.{count}
+use Rattle.sets.specs.Members.{count}
 use Rattle.sets.specs.Immediate.{Immediate}
 use Rattle.world.specs.Programs.{writes, reads, returns, halted}
 use Rattle.world.specs.Calls.{Call, steps, leaves, counts, acceptedStepOf, ever, deposits}

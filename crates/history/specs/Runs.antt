@@ -1,34 +1,18 @@
 -- Lists of calls made on the machine, and what they leave, refused calls among them (demand 3). A refused call leaves the state as it was: that is in
 -- the calls' own definitions. What is counted of a list is counted by the definitions of crates/world.
-use mathlib.Core.Bool.{Bool, cond}
+use mathlib.Core.Bool.{Bool}
 use mathlib.Core.List.{List}
 use Prim.Native.Nat.{ℕ}
 use lib.Dec.{eqb}
 use Rattle.rules.specs.declared.Machine.{Machine}
-use Rattle.rules.specs.declared.Called.{Called}
-use Rattle.rules.specs.State.{stageOf, levelOf}
-use Rattle.rules.specs.Calls.{accepted, fresh, enterOf, stepOf, crashOf}
-use Rattle.world.specs.Calls.{Taker, leaves, counts, ever, AfterSome, deposits, admits}
-pub use Rattle.world.specs.Calls.{Call, enters, steps, crashes, isStep, isEnterOf, acceptedStepOf, acceptedStep, isAccepted, isRefused}
-
-abbrev pub answer : Machine → Call → Called
-answer m (enters p v) = enterOf m p v
-answer m (steps p) = stepOf m p
-answer m (crashes p) = crashOf m p
-
-abbrev pub after : Machine → Call → Machine
-after m c = answer m c .machine
-
--- the machine takes calls
-abbrev pub machineTaker : Taker Machine
-machineTaker = record { accepts = λ m c. accepted (answer m c); after = after }
-
--- the state that the calls leave, and that of a fresh machine of n processes
-abbrev pub from : Machine → List Call → Machine
-from m cs = leaves machineTaker m cs
-
-abbrev pub runs : ℕ → List Call → Machine
-runs n cs = from (fresh n) cs
+use Rattle.rules.specs.Stands.{stageOf}
+use Rattle.rules.specs.State.{levelOf}
+use Rattle.rules.specs.Calls.{fresh}
+use Rattle.world.specs.Calls.{counts, ever, deposits}
+use Rattle.world.specs.Counts.{AfterSome, admits}
+pub use Rattle.world.specs.Calls.{Call, enters, steps, crashes, acceptedStepOf}
+pub use Rattle.world.specs.Counts.{isStep, isEnterOf, acceptedStep, isAccepted, isRefused}
+pub use Rattle.history.specs.IsFigure.{answer, after, machineTaker, from, runs}
 
 -- how many of the calls pass a test of the call and of whether it was accepted
 abbrev pub tally : (Call → Bool → Bool) → Machine → List Call → ℕ

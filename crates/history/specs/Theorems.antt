@@ -6,11 +6,13 @@ use mathlib.Core.Bool.{Bool, true, false}
 use mathlib.Core.List.{List, _++_, List·Memᴰ}
 use Prim.Native.Nat.{ℕ, zero, suc, _+_, _-_, _*_, _≤_}
 use lib.ListN.{length, getD, replicate}
-use Rattle.sets.specs.Sets.{has, count, within, size}
+use Rattle.sets.specs.Members.{has, count, size}
+use Rattle.sets.specs.Sets.{within}
 use Rattle.sets.specs.Immediate.{Immediate}
 use Rattle.rules.specs.declared.Machine.{Machine}
 use Rattle.rules.specs.declared.Called.{Called}
-use Rattle.rules.specs.State.{processOf, stageOf, valueOf, entered, finished, crashed, foundOf, accessesOf}
+use Rattle.rules.specs.Stands.{processOf, stageOf, valueOf, entered}
+use Rattle.rules.specs.State.{finished, crashed, foundOf, accessesOf}
 use Rattle.rules.specs.Shape.{Held, Shaped}
 use Rattle.rules.specs.Calls.{numberOf, accepted, fresh, enterOf, stepOf, crashOf, finishOf, lookOf}
 use Rattle.rules.specs.Statements.{Meets}
@@ -18,7 +20,7 @@ use Rattle.world.specs.Programs.{holds, returns}
 use Rattle.world.specs.World.{takes, does}
 use Rattle.history.specs.Runs.{Call, steps, answer, after, runs, acceptedSteps, allSteps, reached, given, hasEntered}
 use Rattle.history.specs.Figure.{Pair, figure}
-use Rattle.history.specs.Demand.{figureRuns, begun}
+use Rattle.history.specs.Demand.{begun}
 use Rattle.history.specs.AsWorld.{register, programOf, worldOf}
 use Rattle.history.specs.Views.{Has, View}
 
@@ -51,15 +53,6 @@ LookShowsView = (m : Machine) → Shaped m → (i : ℕ) → Has m i → (j v : 
 -- Demand 3: "Take any list of enters, steps and crashes from a fresh machine of n tasks, refused calls among them."
 abbrev pub OfEveryRun : (ℕ → List Call → Type 0) → Type 0
 OfEveryRun P = (n : ℕ) → 1 ≤ n → n ≤ 32 → (cs : List Call) → P n cs
-
--- A run of the machine is a run of Fig. 8.16: after every list of calls the machine is the figure's world after the same calls, and both accept the
--- same calls. So the answers of a machine are those of the published algorithm over whole runs, refused calls among them.
-pub record IsFigure (n : ℕ) (cs : List Call) : Type 0 where
-  pub world : worldOf (runs n cs) ≡ figureRuns n cs
-  pub accepts : (c : Call) → accepted (answer (runs n cs) c) ≡ takes (figure n) (figureRuns n cs) c
-
-abbrev pub EveryRunIsFigure : Type 0
-EveryRunIsFigure = OfEveryRun IsFigure
 
 -- Document 01: "Every state that a run leaves meets it."
 abbrev pub EveryStateShaped : Type 0

@@ -2,9 +2,10 @@
 use mathlib.Core.Path.{_≡_}
 use mathlib.Core.Bool.{true}
 use Prim.Native.Nat.{ℕ, _≤_}
-use Rattle.sets.specs.Sets.{has}
+use Rattle.sets.specs.Members.{has}
 use Rattle.rules.specs.declared.Machine.{Machine}
-use Rattle.rules.specs.State.{stageOf, cellOf, finished, levelOf, foundOf}
+use Rattle.rules.specs.Stands.{stageOf, cellOf}
+use Rattle.rules.specs.State.{finished, levelOf, foundOf}
 
 -- process i of 1 to n has a view: it has finished
 pub record Has (m : Machine) (i : ℕ) : Type 0 where

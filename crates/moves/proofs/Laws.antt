@@ -5,7 +5,7 @@ use Prim.Native.Nat.{ℕ, _+_, _-_, _≤_, _<_}
 use native.Mathlib.Omega.{arith}
 use lib.Dec.{leb, ltb, eqb}
 use borrow.Author.Tests.{leb-true, eqb-true}
-use Rattle.sets.specs.Sets.{size}
+use Rattle.sets.specs.Members.{size}
 use Rattle.rules.specs.declared.Stage.{Stage}
 use Rattle.rules.specs.declared.Stage.the-variants.{Absent, Running, Finished, Crashed}
 use Rattle.rules.specs.declared.Process.{Process}
@@ -13,7 +13,8 @@ use Rattle.rules.specs.declared.Machine.{Machine}
 use Rattle.rules.specs.declared.Answer.{Answer}
 use Rattle.rules.specs.declared.Answer.the-variants.{Done, NotShaped, NoProcess, NeverEntered, HasCrashed, HasFinished, NoLevelBelow}
 use Rattle.rules.specs.declared.Called.{Called}
-use Rattle.rules.specs.State.{nobody, processOf, stageOf, valueOf, rowOf, withStage}
+use Rattle.rules.specs.Stands.{nobody, processOf, stageOf, valueOf, rowOf}
+use Rattle.rules.specs.State.{withStage}
 use Rattle.rules.specs.Shape.{ShapedStage, shaped}
 use Rattle.rules.specs.Calls.{done, refused, tested, reading, write, settle, access, stepAt, stepOf}
 use Rattle.rules.specs.Statements.{Valid}

@@ -7,13 +7,13 @@ use native.Mathlib.Omega.{arith}
 use types.Run.{OneOf, miss}
 use denote.Enum.Declared.{tagOf}
 use lib.ListN.{length, getD, set, length-append}
-use Rattle.sets.specs.Sets.{has, count, size, tick}
+use Rattle.sets.specs.Members.{has, count, size, tick}
 use Rattle.sets.proofs.Laws.{count-le}
 use Rattle.rules.proofs.Stage.{the-type}
 use Rattle.rules.specs.declared.Stage.{Stage}
 use Rattle.rules.specs.declared.Stage.the-variants.{Absent, Running, Finished, Crashed}
 use Rattle.rules.specs.declared.Machine.{Machine}
-use Rattle.rules.specs.State.{cellIn, nobody, rowOf, stageOf}
+use Rattle.rules.specs.Stands.{cellIn, nobody, rowOf, stageOf}
 use Rattle.rules.specs.Shape.{Shaped, ShapedStage, shaped}
 use Rattle.rules.proofs.Laws.Shape.{shaped-record}
 use Rattle.formats.specs.Records.{wordBytes}

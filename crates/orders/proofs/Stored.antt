@@ -5,11 +5,12 @@ use mathlib.Core.Path.{_≡_, refl, sym, ap, ap₂, _∙_}
 use mathlib.Core.List.{List, [], _∷_, _++_}
 use native.Mathlib.Omega.{arith}
 use Rattle.text.proofs.Parts.{joined-ext}
-use Rattle.sets.specs.Sets.{has}
+use Rattle.sets.specs.Members.{has}
 use Rattle.rules.specs.declared.Stage.{Stage}
 use Rattle.rules.specs.declared.Stage.the-variants.{Absent, Running, Finished, Crashed}
 use Rattle.rules.specs.declared.Machine.{Machine}
-use Rattle.rules.specs.State.{stageOf, cellOf, finished, levelOf}
+use Rattle.rules.specs.Stands.{stageOf, cellOf}
+use Rattle.rules.specs.State.{finished, levelOf}
 use Rattle.rules.specs.Calls.{viewOf}
 use Rattle.formats.specs.Records.{wordBytes}
 use Rattle.formats.specs.Views.{owns, seenBy, valueBy}

@@ -14,7 +14,7 @@ ghost use mathlib.Core.Bool.{true};
 ghost use Prim.Native.Nat.{_+_, _*_, _≤_};
 ghost use lib.Dec.{eqb};
 ghost use lib.ListN.{length};
-ghost use Rattle.sets.specs.Sets.{size};
+ghost use Rattle.sets.specs.Members.{size};
 ghost use Rattle.rules.specs.Shape.{shaped};
 ghost use Rattle.rules.specs.Calls.{numberOf, fresh};
 ghost use Rattle.formats.specs.Records.{wordBytes};

@@ -4,7 +4,8 @@ use mathlib.Core.Path.{_≡_, refl, ap, _∙_}
 use mathlib.Core.List.{List}
 use lib.Dec.{lit≤}
 use lib.ListN.{length}
-use Rattle.sets.specs.Sets.{has, plus, first, every, count, within, size}
+use Rattle.sets.specs.Members.{has, count, size}
+use Rattle.sets.specs.Sets.{plus, first, every, within}
 use Rattle.rules.specs.Calls.{fresh, reading, settle, access, rowValues}
 use Rattle.rules.proofs.Laws.Keeps.{meets-fresh}
 use Rattle.history.specs.Runs.{acceptedStep, isRefused}

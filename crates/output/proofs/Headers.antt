@@ -2,7 +2,7 @@
 use Prim.Native.Nat.{ℕ}
 use mathlib.Core.Path.{ap, _∙_}
 use mathlib.Core.List.{List, [], _∷_, _++_, append-assoc}
-use Rattle.sets.specs.Sets.{count}
+use Rattle.sets.specs.Members.{count}
 use Rattle.formats.specs.Numbers.{fileNumber}
 use Rattle.text.specs.Ascii.{ascii, lines}
 use Rattle.text.specs.Decimal.{digitsIn, decimal}

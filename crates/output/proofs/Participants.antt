@@ -2,10 +2,10 @@
 use Prim.Native.Nat.{ℕ, _≤_}
 use mathlib.Core.Path.{_≡_, refl, ap, _∙_}
 use mathlib.Core.List.{List, [], _∷_, _++_, append-nil}
-use Rattle.sets.specs.Sets.{count}
+use Rattle.sets.specs.Members.{count}
 use Rattle.sets.proofs.Laws.{count-ext}
 use Rattle.rules.specs.declared.Machine.{Machine}
-use Rattle.rules.specs.State.{stageOf, entered}
+use Rattle.rules.specs.Stands.{stageOf, entered}
 use Rattle.formats.specs.Records.{headerOf}
 use Rattle.text.specs.Ascii.{ascii}
 use Rattle.text.specs.Decimal.{decimal}

@@ -6,11 +6,12 @@ use mathlib.Core.Bool.{Bool, true, false, cond, true≢false}
 use mathlib.Core.List.{List, [], _∷_, _++_, map, append-assoc, append-nil}
 use native.Mathlib.Omega.{arith}
 use lib.ListN.{length, getD, List·getD-append}
-use Rattle.sets.specs.Sets.{has, size}
+use Rattle.sets.specs.Members.{has, size}
 use Rattle.rules.specs.declared.Stage.{Stage}
 use Rattle.rules.specs.declared.Stage.the-variants.{Absent, Running, Finished, Crashed}
 use Rattle.rules.specs.declared.Machine.{Machine}
-use Rattle.rules.specs.State.{stageOf, valueOf, rowOf, cellOf, finished, foundOf}
+use Rattle.rules.specs.Stands.{stageOf, valueOf, rowOf, cellOf}
+use Rattle.rules.specs.State.{finished, foundOf}
 use Rattle.rules.specs.Shape.{Shaped, Ended, ShapedStage}
 use Rattle.rules.specs.Calls.{rowValues, looked}
 use Rattle.rules.proofs.Laws.Looks.{row-values-at}

@@ -5,12 +5,12 @@ use mathlib.Core.Bool.{Bool, true, false, cond}
 use mathlib.Core.List.{List, [], _∷_, _++_}
 use lib.Dec.{leb}
 use lib.ListN.{length, getD}
-use Rattle.sets.specs.Sets.{has, count}
+use Rattle.sets.specs.Members.{has, count}
 use Rattle.rules.specs.declared.Standing.{Standing}
 use Rattle.rules.specs.declared.Standing.the-variants.{Absent, Running, Finished, Crashed}
 use Rattle.rules.specs.declared.Machine.{Machine}
 use Rattle.rules.specs.declared.Sight.{Sight}
-use Rattle.rules.specs.State.{stageOf, entered}
+use Rattle.rules.specs.Stands.{stageOf, entered}
 use Rattle.rules.specs.Calls.{looked}
 use Rattle.formats.specs.Numbers.{fileNumber}
 use Rattle.text.specs.Parts.{joined}

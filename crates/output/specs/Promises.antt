@@ -5,9 +5,10 @@ use mathlib.Core.Logic.{_↔_, _≢_}
 use mathlib.Core.Bool.{false}
 use mathlib.Core.List.{List, [], _∷_, _++_, map}
 use lib.ListN.{length}
-use Rattle.sets.specs.Sets.{count}
+use Rattle.sets.specs.Members.{count}
 use Rattle.rules.specs.declared.Machine.{Machine}
-use Rattle.rules.specs.State.{stageOf, finished}
+use Rattle.rules.specs.Stands.{stageOf}
+use Rattle.rules.specs.State.{finished}
 use Rattle.rules.specs.Calls.{looked}
 use Rattle.history.specs.Runs.{hasEntered}
 use Rattle.world.specs.Programs.{returns}

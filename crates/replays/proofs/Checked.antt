@@ -7,11 +7,12 @@ use mathlib.Core.List.{List, [], _∷_}
 use native.Mathlib.Omega.{arith}
 use lib.Dec.{eqb}
 use lib.ListN.{length}
-use Rattle.sets.specs.Sets.{has}
+use Rattle.sets.specs.Members.{has}
 use Rattle.sets.specs.Immediate.{Immediate, Inside}
 use Rattle.sets.proofs.Laws.{has-known}
 use Rattle.rules.specs.declared.Machine.{Machine}
-use Rattle.rules.specs.State.{stageOf, valueOf, foundOf}
+use Rattle.rules.specs.Stands.{stageOf, valueOf}
+use Rattle.rules.specs.State.{foundOf}
 use Rattle.rules.specs.Shape.{Words, Shaped}
 use Rattle.rules.specs.Calls.{accepted, fresh, enterOf, viewOf}
 use Rattle.rules.proofs.Laws.Shape.{record-shaped}

@@ -6,7 +6,8 @@ use mathlib.Core.List.{List, [], _∷_, _++_}
 use native.Mathlib.Omega.{arith}
 use lib.Dec.{lit≤}
 use lib.ListN.{length, drop}
-use Rattle.sets.specs.Sets.{tick, has, plus, setOf}
+use Rattle.sets.specs.Members.{tick, has}
+use Rattle.sets.specs.Sets.{plus, setOf}
 use Rattle.rules.specs.declared.Called.{Called}
 use Rattle.rules.specs.Calls.{accepted, fresh}
 use Rattle.rules.specs.Shape.{shaped}

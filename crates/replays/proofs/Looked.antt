@@ -4,14 +4,15 @@ use mathlib.Core.Bool.{Bool, true, false, cond, true≢false}
 use mathlib.Core.Path.{_≡_, refl, sym, ap, _∙_}
 use native.Mathlib.Omega.{arith}
 use lib.ListN.{getD}
-use Rattle.sets.specs.Sets.{has}
+use Rattle.sets.specs.Members.{has}
 use Rattle.rules.specs.declared.Stage.{Stage}
 use Rattle.rules.specs.declared.Stage.the-variants.{Absent, Running, Finished, Crashed}
 use Rattle.rules.specs.declared.Standing.{Standing}
 use Rattle.rules.specs.declared.Sight.{Sight}
 use Rattle.rules.specs.declared.Machine.{Machine}
 use Rattle.rules.specs.Shape.{shaped}
-use Rattle.rules.specs.State.{stageOf, cellIn, finished, levelOf}
+use Rattle.rules.specs.Stands.{stageOf, cellIn}
+use Rattle.rules.specs.State.{finished, levelOf}
 use Rattle.rules.specs.Calls.{standingOf, viewOf, looked, lookOf}
 use Rattle.rules.proofs.Laws.Shape.{shaped-record}
 use Rattle.rules.proofs.Laws.Looks.{look-valid, row-values-at}

@@ -10,7 +10,7 @@ use lib.ListN.{length, length-append}
 use Rattle.history.specs.Runs.{Call, enters, steps, crashes}
 use Rattle.formats.specs.declared.FileAnswer.the-variants.{Whole}
 use Rattle.formats.specs.declared.Order.{Order}
-use Rattle.formats.specs.Records.{byteAt, reads, orderAt}
+use Rattle.formats.specs.Records.{byteAt, spells, orderAt}
 use Rattle.formats.proofs.Bytes.{word-back, byte-past, word-past}
 use Rattle.formats.proofs.Table.{header-read}
 use Rattle.replays.specs.Replays.{Orders, then, orderThen, ordersFrom, replayed, replayBy, replayOf}
@@ -36,7 +36,7 @@ module _ (a t : List ℕ) where
 
   -- the mark of a call's bytes
   marks : (l : List ℕ) (t : String) → marked l 0 t ≡ true → marked (a ++ l) (length a) t ≡ true
-  marks l t e = ap₂ (reads t) (at-0 l) (byte-past a l 1) ∙ e
+  marks l t e = ap₂ (spells t) (at-0 l) (byte-past a l 1) ∙ e
 
   stands : (c : Call) → FileCall c → orderAt (a ++ (callBytes c ++ t)) (length a) ≡ orderOf c
   stands (enters p v) w =

@@ -15,7 +15,7 @@ use Rattle.formats.specs.declared.FileAnswer.the-variants.{OtherMark, MarkCut, 
 use Rattle.formats.specs.declared.Mark.{Mark}
 use Rattle.formats.specs.declared.Order.{Order}
 use Rattle.formats.specs.Numbers.{fileNumber}
-use Rattle.formats.specs.Records.{byteAt, wordAt, reads, markOf, markAt, fits, orderBy, orderAt}
+use Rattle.formats.specs.Records.{byteAt, wordAt, spells, markOf, markAt, fits, orderBy, orderAt}
 use Rattle.formats.proofs.Table.{not-leb}
 use Rattle.sets.specs.Lines.{when, firstThat}
 use Rattle.replays.specs.Table.{marked, orderLines, Stands}
@@ -30,10 +30,10 @@ mark-bytes s at t e =
     let b = and-eq-true-iff (eqb (byteAt s at) (letter t 0)) (eqb (byteAt s (at + 1)) (letter t 1)) .0 e in
     (eqb-true (byteAt s at) (letter t 0) (b .0), eqb-true (byteAt s (at + 1)) (letter t 1) (b .1))
 
-mark-other : (s : List ℕ) (at : ℕ) (t u : String) → marked s at t ≡ true → marked s at u ≡ reads u (letter t 0) (letter t 1)
+mark-other : (s : List ℕ) (at : ℕ) (t u : String) → marked s at t ≡ true → marked s at u ≡ spells u (letter t 0) (letter t 1)
 mark-other s at t u e =
     let b = mark-bytes s at t e in
-    ap₂ (reads u) (b .0) (b .1)
+    ap₂ (spells u) (b .0) (b .1)
 
 mark-at : (s : List ℕ) (at : ℕ) (t : String) → at + 2 ≤ length s → marked s at t ≡ true → markAt s at ≡ markOf (letter t 0) (letter t 1)
 unfolding markAt
@@ -75,7 +75,7 @@ no-line false false false true e = absurd (omega arith)
 no-line false false false false e = refl
 
 body-there : (s : List ℕ) (at : ℕ) (t : String) → Stands s at t
-    → cond (reads "EN" (letter t 0) (letter t 1)) (ltb (length s) (at + 7)) (ltb (length s) (at + 3)) ≡ false
+    → cond (spells "EN" (letter t 0) (letter t 1)) (ltb (length s) (at + 7)) (ltb (length s) (at + 3)) ≡ false
 body-there s at t r =
     ap (λ (b : Bool). cond b (ltb (length s) (at + 7)) (ltb (length s) (at + 3))) (sym (mark-other s at t "EN" (r .mark)))
     ∙ no-line (eqb (length s) (at + 1)) (marked s at "MN") (not (marked s at "EN" || marked s at "ST" || marked s at "CR"))

@@ -5,17 +5,19 @@ use mathlib.Core.Path.{_≡_, refl, sym, ap, _∙_}
 use mathlib.Core.Logic.{⊎-elim}
 use mathlib.Core.List.{[], _∷_}
 use native.Mathlib.Omega.{arith}
-use Rattle.sets.specs.Sets.{has}
+use Rattle.sets.specs.Members.{has}
 use Rattle.sets.proofs.Laws.{either, has-zero, has-known, setOf-below}
 use Rattle.rules.specs.declared.Stage.{Stage}
 use Rattle.rules.specs.declared.Stage.the-variants.{Absent, Running, Finished, Crashed}
 use Rattle.rules.specs.declared.Machine.{Machine}
-use Rattle.rules.specs.State.{stageOf, valueOf, rowOf, cellOf, entered, finished, levelOf, foundOf}
+use Rattle.rules.specs.Stands.{stageOf, valueOf, rowOf, cellOf, entered}
+use Rattle.rules.specs.State.{finished, levelOf, foundOf}
 use Rattle.rules.specs.Shape.{Held, Words, Shaped, ShapedStage}
 use Rattle.rules.specs.Calls.{viewOf}
 use Rattle.rules.proofs.Laws.Small.{at-most-or-above}
 use Rattle.rules.proofs.Laws.Shape.{shaped-record}
-use Rattle.formats.specs.Views.{owns, seenBy, valueBy, InRange}
+use Rattle.formats.specs.Views.{owns, seenBy, valueBy}
+use Rattle.formats.specs.Range.{InRange}
 use Rattle.text.specs.Parts.{joined}
 use Rattle.formats.proofs.RoundTrip as files
 use Rattle.replays.specs.Writes.{valueIn, viewsOf, bytesOf}

@@ -7,7 +7,7 @@ use native.Mathlib.Omega.{arith}
 use lib.Dec.{eqb}
 use lib.ListN.{length}
 use borrow.Author.Tests.{leb-true, le-leb, lt-leb}
-use Rattle.sets.specs.Sets.{tick}
+use Rattle.sets.specs.Members.{tick}
 use Rattle.rules.specs.declared.Machine.{Machine}
 use Rattle.rules.specs.Calls.{accepted, fresh}
 use Rattle.history.specs.Runs.{Call, enters, steps, crashes, answer, from, tally, isStep, acceptedStep, isRefused}

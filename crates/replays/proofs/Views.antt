@@ -8,7 +8,8 @@ use lib.ListN.{getD}
 use borrow.Author.Tests.{le-leb}
 use Rattle.sets.proofs.Laws.{true-known, has-setOf}
 use Rattle.rules.specs.declared.Machine.{Machine}
-use Rattle.rules.specs.State.{stageOf, finished}
+use Rattle.rules.specs.Stands.{stageOf}
+use Rattle.rules.specs.State.{finished}
 use Rattle.rules.specs.Calls.{viewOf}
 use Rattle.formats.specs.Views.{owns, seenBy, valueBy}
 use Rattle.text.specs.Parts.{joined}

@@ -9,7 +9,7 @@ use Rattle.rules.specs.declared.Stage.{Stage}
 use Rattle.rules.specs.declared.Stage.the-variants.{Running, Finished, Crashed}
 use Rattle.rules.specs.declared.Process.{Process}
 use Rattle.rules.specs.declared.Machine.{Machine}
-use Rattle.rules.specs.State.{nobody}
+use Rattle.rules.specs.Stands.{nobody}
 use Rattle.rules.specs.Calls.{fresh}
 use Rattle.history.specs.Runs.{Call, enters, steps, crashes, runs}
 use Rattle.history.specs.Examples.{printed}

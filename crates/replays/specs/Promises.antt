@@ -6,12 +6,13 @@ use mathlib.Core.Path.{_≡_}
 use mathlib.Core.Logic.{_↔_, _≢_}
 use mathlib.Core.List.{List, _++_, List·Memᴰ}
 use lib.ListN.{length, getD, take, drop}
-use Rattle.sets.specs.Sets.{count, size}
+use Rattle.sets.specs.Members.{count, size}
 use Rattle.sets.specs.Immediate.{Immediate}
 use Rattle.sets.specs.Lines.{firstThat}
 use Rattle.rules.specs.declared.Machine.{Machine}
 use Rattle.rules.specs.declared.Standing.{Standing}
-use Rattle.rules.specs.State.{stageOf, finished, foundOf}
+use Rattle.rules.specs.Stands.{stageOf}
+use Rattle.rules.specs.State.{finished, foundOf}
 use Rattle.rules.specs.Shape.{Held, Words, shaped}
 use Rattle.rules.specs.Calls.{fresh, lookOf}
 use Rattle.rules.specs.Shapes.{BothSides, everyClause}

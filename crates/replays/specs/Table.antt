@@ -10,14 +10,14 @@ use lib.Dec.{ltb, eqb}
 use lib.ListN.{length}
 use Rattle.history.specs.Runs.{Call, enters, steps, crashes}
 use Rattle.formats.specs.Numbers.{fileNumber}
-use Rattle.formats.specs.Records.{byteAt, wordAt, reads}
+use Rattle.formats.specs.Records.{byteAt, wordAt, spells}
 use Rattle.sets.specs.Lines.{Line, when, firstThat}
 use Rattle.formats.specs.Table.{headerLines}
 use Rattle.replays.specs.Replays.{replayOf, callsOf}
 
 -- the mark at a place
 abbrev pub marked : List ℕ → ℕ → String → Bool
-marked s at t = reads t (byteAt s at) (byteAt s (at + 1))
+marked s at t = spells t (byteAt s at) (byteAt s (at + 1))
 
 -- a later record, at a place where bytes are left: `MN`; a mark other than `EN`, `ST` and `CR`; a body cut off
 abbrev pub orderLines : List ℕ → ℕ → List Line

@@ -4,9 +4,11 @@ use mathlib.Core.Bool.{cond}
 use mathlib.Core.List.{List, [], _∷_, _++_}
 use lib.Dec.{leb}
 use lib.ListN.{length, drop}
-use Rattle.sets.specs.Sets.{has, setOf}
+use Rattle.sets.specs.Members.{has}
+use Rattle.sets.specs.Sets.{setOf}
 use Rattle.rules.specs.declared.Machine.{Machine}
-use Rattle.rules.specs.State.{stageOf, cellOf, finished, levelOf}
+use Rattle.rules.specs.Stands.{stageOf, cellOf}
+use Rattle.rules.specs.State.{finished, levelOf}
 use Rattle.rules.specs.Shape.{shaped}
 use Rattle.rules.specs.Calls.{viewOf}
 use Rattle.formats.specs.declared.Views.{Views}

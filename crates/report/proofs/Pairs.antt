@@ -5,7 +5,7 @@ use mathlib.Core.Path.{_≡_, ap, ap₂, _∙_}
 use mathlib.Core.List.{List, _++_}
 use native.Mathlib.Omega.{arith}
 use lib.ListN.{getD}
-use Rattle.sets.specs.Sets.{has}
+use Rattle.sets.specs.Members.{has}
 use Rattle.output.specs.Lines.{pair, pairsFrom}
 use Rattle.text.specs.Stores.{Room, Stored}
 use Rattle.text.proofs.Stores.{Left, left-start, left-room, left-next, left-as, left-none, room-first, room-as}

@@ -7,11 +7,11 @@ use native.Mathlib.Numerals.{add-one}
 use native.Mathlib.Omega.{arith}
 use lib.ListN.{length, getD}
 use borrow.Author.Tests.{le-leb}
-use Rattle.sets.specs.Sets.{count, tick}
+use Rattle.sets.specs.Members.{count, tick}
 use Rattle.rules.specs.declared.Machine.{Machine}
 use Rattle.rules.specs.declared.Sight.{Sight}
 use Rattle.rules.specs.declared.Answer.the-variants.{NoProcess, NotShaped}
-use Rattle.rules.specs.State.{nobody, stageOf, entered}
+use Rattle.rules.specs.Stands.{nobody, stageOf, entered}
 use Rattle.rules.specs.Shape.{Shaped}
 use Rattle.rules.specs.Calls.{looked, unseen, lookOf}
 use Rattle.rules.proofs.Laws.Shape.{record-shaped}

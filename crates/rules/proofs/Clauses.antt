@@ -5,7 +5,8 @@ use mathlib.Core.List.{List, [], _∷_}
 use Prim.Native.Nat.{ℕ, _*_, _^_}
 use lib.Dec.{leb, ltb, eqb}
 use lib.ListN.{length, drop}
-use Rattle.sets.specs.Sets.{has, plus, first, every, within, count, size}
+use Rattle.sets.specs.Members.{has, count, size}
+use Rattle.sets.specs.Sets.{plus, first, every, within}
 use Rattle.rules.specs.declared.Process.{Process}
 use Rattle.rules.specs.declared.Machine.{Machine}
 use Rattle.rules.specs.State.{foundOf, wrote}

@@ -17,7 +17,8 @@ use Rattle.rules.specs.declared.Machine.{Machine}
 use Rattle.rules.specs.declared.Stage.{Stage}
 use Rattle.rules.specs.declared.Stage.the-variants.{Absent, Running, Finished, Crashed}
 use Rattle.rules.specs.declared.Process.{Process}
-use Rattle.rules.specs.State.{nobody, foundOf}
+use Rattle.rules.specs.Stands.{nobody}
+use Rattle.rules.specs.State.{foundOf}
 use Rattle.rules.specs.Shape.{Held, Words}
 use Rattle.rules.proofs.Stage as Stage-row
 use Rattle.rules.proofs.Process as Process-row

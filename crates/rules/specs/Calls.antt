@@ -4,7 +4,8 @@ use mathlib.Core.Bool.{Bool, true, false, _&&_, cond}
 use mathlib.Core.List.{List, [], _∷_}
 use lib.Dec.{leb, ltb, eqb}
 use lib.ListN.{replicate}
-use Rattle.sets.specs.Sets.{has, plus, size}
+use Rattle.sets.specs.Members.{has, size}
+use Rattle.sets.specs.Sets.{plus}
 use Rattle.rules.specs.declared.Stage.{Stage}
 use Rattle.rules.specs.declared.Stage.the-variants.{Absent, Running, Finished, Crashed}
 use Rattle.rules.specs.declared.Standing.{Standing}
@@ -13,7 +14,8 @@ use Rattle.rules.specs.declared.Answer.{Answer}
 use Rattle.rules.specs.declared.Answer.the-variants.{Done, NotShaped, NoProcess, EnteredBefore, NeverEntered, HasCrashed, HasFinished, NoLevelBelow, OutOfRange}
 use Rattle.rules.specs.declared.Called.{Called}
 use Rattle.rules.specs.declared.Sight.{Sight}
-use Rattle.rules.specs.State.{nobody, stageOf, valueOf, rowOf, cellIn, finished, levelOf, madeOf, accessesOf, withProcess, withStage, withRegister}
+use Rattle.rules.specs.Stands.{nobody, stageOf, valueOf, rowOf, cellIn}
+use Rattle.rules.specs.State.{finished, levelOf, madeOf, accessesOf, withProcess, withStage, withRegister}
 use Rattle.rules.specs.Shape.{shaped}
 
 abbrev pub numberOf : Answer → ℕ

@@ -4,12 +4,13 @@ use Prim.Native.Nat.{ℕ}
 use mathlib.Core.Bool.{Bool, false, not, _&&_}
 use mathlib.Core.List.{List, [], _∷_, _++_}
 use lib.Dec.{leb, eqb}
-use Rattle.sets.specs.Sets.{size}
+use Rattle.sets.specs.Members.{size}
 use Rattle.sets.specs.Lines.{Line, when}
 use Rattle.rules.specs.declared.Stage.{Stage}
 use Rattle.rules.specs.declared.Stage.the-variants.{Absent, Running, Finished, Crashed}
 use Rattle.rules.specs.declared.Machine.{Machine}
-use Rattle.rules.specs.State.{stageOf, rowOf, entered, finished, crashed}
+use Rattle.rules.specs.Stands.{stageOf, rowOf, entered}
+use Rattle.rules.specs.State.{finished, crashed}
 use Rattle.rules.specs.Shape.{shaped}
 use Rattle.rules.specs.Calls.{reading}
 

@@ -6,12 +6,14 @@ use mathlib.Core.Bool.{Bool, true, false, _&&_, cond}
 use mathlib.Core.List.{List}
 use lib.Dec.{leb, eqb}
 use lib.ListN.{length, getD}
-use Rattle.sets.specs.Sets.{has, first, every, within, size, same}
+use Rattle.sets.specs.Members.{has, size}
+use Rattle.sets.specs.Sets.{first, every, within, same}
 use Rattle.rules.specs.declared.Stage.{Stage}
 use Rattle.rules.specs.declared.Stage.the-variants.{Absent, Running, Finished, Crashed}
 use Rattle.rules.specs.declared.Process.{Process}
 use Rattle.rules.specs.declared.Machine.{Machine}
-use Rattle.rules.specs.State.{nobody, processOf, rowIn, stageOf, valueOf, rowOf, cellOf, entered, foundOf, wrote}
+use Rattle.rules.specs.Stands.{nobody, processOf, rowIn, stageOf, valueOf, rowOf, cellOf, entered}
+use Rattle.rules.specs.State.{foundOf, wrote}
 
 -- What the declared types say by themselves: [u32; 32], [u32; 1024], [Process; 32]. Nothing tests it.
 pub record Held (m : Machine) : Type 0 where

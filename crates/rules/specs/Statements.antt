@@ -6,7 +6,7 @@ use mathlib.Core.List.{List, [], _∷_, _++_, List·Memᴰ}
 use Prim.Native.Nat.{ℕ, _+_, _-_, _*_, _≤_, _<_}
 use lib.Dec.{ltb, eqb}
 use lib.ListN.{length, getD, replicate}
-use Rattle.sets.specs.Sets.{has, size}
+use Rattle.sets.specs.Members.{has, size}
 use Rattle.rules.specs.declared.Stage.{Stage}
 use Rattle.rules.specs.declared.Stage.the-variants.{Absent, Running, Finished, Crashed}
 use Rattle.rules.specs.declared.Machine.{Machine}
@@ -14,7 +14,8 @@ use Rattle.rules.specs.declared.Answer.{Answer}
 use Rattle.rules.specs.declared.Answer.the-variants.{Done, NoLevelBelow}
 use Rattle.rules.specs.declared.Standing.{Standing}
 use Rattle.rules.specs.declared.Sight.{Sight}
-use Rattle.rules.specs.State.{processOf, stageOf, valueOf, rowOf, cellOf, entered, finished, crashed, levelOf, madeOf, foundOf, accessesOf}
+use Rattle.rules.specs.Stands.{processOf, stageOf, valueOf, rowOf, cellOf, entered}
+use Rattle.rules.specs.State.{finished, crashed, levelOf, madeOf, foundOf, accessesOf}
 use Rattle.rules.specs.State.{withProcess, withStage, withRegister}
 use Rattle.rules.specs.Shape.{Held, Shaped, shaped}
 use Rattle.sets.specs.Lines.{Line}

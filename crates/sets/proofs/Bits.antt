@@ -9,7 +9,8 @@ use lib.Dec.{eqb}
 use lib.Pow.{shl-exact}
 use lib.Bits.{bitAnd, bitOr, and-step, or-step, and-mask, and-le-l, or-add-and, or-disjoint}
 use borrow.Author.Tests.{eqb-true, eq-eqb}
-use Rattle.sets.specs.Sets.{known, has, plus, tick, within}
+use Rattle.sets.specs.Members.{known, has, tick}
+use Rattle.sets.specs.Sets.{plus, within}
 use Rattle.sets.proofs.Digits.{digit, digit-small}
 use Rattle.sets.proofs.Laws.{either, same-truth, known-digit, digit-in, digit-out, unknown-has, plus-idle, plus-new}
 use Rattle.sets.proofs.Laws.{members-equal, within-true, true-within}

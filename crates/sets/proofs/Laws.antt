@@ -10,7 +10,8 @@ use lib.Dec.{leb, eqb}
 use lib.Pow.{pow-mono, ones-lt}
 use lib.Count.{ones, ones-step}
 use borrow.Author.Tests.{leb-true, leb-false, le-leb, lt-leb, eqb-true, eqb-false}
-use Rattle.sets.specs.Sets.{known, has, plus, first, every, tick, count, within, size, setOf, upwards}
+use Rattle.sets.specs.Members.{known, has, tick, count, size}
+use Rattle.sets.specs.Sets.{plus, first, every, within, setOf, upwards}
 use Rattle.sets.proofs.Digits.{digit, digit-is, digit-small, digit-zero, digit-above, digits-equal, add-here, add-other, add-below, ones-digit, cleared-digit}
 
 pub either : (b : Bool) → (b ≡ true) ⊎ (b ≡ false)

@@ -1,16 +1,9 @@
 -- A set of processes as one 32-bit number (document 01, rule 5: "it holds them as one 32-bit set"): process i of 1 to 32 is in it exactly if
 -- binary digit i - 1 is set.
-use Prim.Native.Nat.{ℕ, zero, suc, _+_, _-_, _/_, _%_, _^_, min}
+use Prim.Native.Nat.{ℕ, zero, suc, _+_, _-_, _^_, min}
 use mathlib.Core.Bool.{Bool, true, false, not, _&&_, cond}
-use lib.Dec.{leb, eqb}
-
--- the processes that a set can hold
-abbrev pub known : ℕ → Bool
-known i = leb 1 i && leb i 32
-
--- process i is in the set s
-unfoldable pub has : ℕ → ℕ → Bool
-has s i = known i && eqb (s / 2 ^ (i - 1) % 2) 1
+use lib.Dec.{leb}
+use Rattle.sets.specs.Members.{known, has}
 
 -- s with process i in it; s itself where no set can hold i
 unfoldable pub plus : ℕ → ℕ → ℕ
@@ -25,23 +18,9 @@ unfoldable pub every : ℕ → (ℕ → Bool) → Bool
 every zero f = true
 every (suc k) f = f (suc k) && every k f
 
--- 1 for a test that is passed
-abbrev pub tick : Bool → ℕ
-tick true = 1
-tick false = 0
-
--- how many numbers from 1 to k pass a test
-unfoldable pub count : (ℕ → Bool) → ℕ → ℕ
-count f zero = 0
-count f (suc k) = tick (f (suc k)) + count f k
-
 -- every process of s is in t
 unfoldable pub within : ℕ → ℕ → Bool
 within s t = every 32 (λ i. cond (has s i) (has t i) true)
-
--- how many processes are in s
-unfoldable pub size : ℕ → ℕ
-size s = count (has s) 32
 
 -- the set of those of 1 to k that pass a test, of those that a set can hold
 unfoldable pub setOf : (ℕ → Bool) → ℕ → ℕ

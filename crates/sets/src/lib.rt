@@ -1,7 +1,8 @@
 // A set of processes in one 32-bit number, bit i - 1 for process i: what a process holds of the registers that it found filled, and
 // what a view file gives for a view.
 ghost use mathlib.Core.Path.{_≡_};
-ghost use Rattle.sets.specs.Sets.{has, plus, first, within, size, upwards};
+ghost use Rattle.sets.specs.Members.{has, size};
+ghost use Rattle.sets.specs.Sets.{plus, first, within, upwards};
 
 // Process i is in the set s. A number outside 1 to 32 is in no set.
 pub fn has(s: u32, i: u32) -> bool

@@ -12,14 +12,16 @@ use lib.Bits.{bitOr, or-lt}
 use lib.ListN.{length, getD, set, length-map, List·getD-eq-default}
 use lib.Seq.{getD-set-same, getD-set-other}
 use borrow.Author.Tests.{leb-true, leb-false, ltb-true, ltb-false, eqb-true, eqb-false, le-leb, lt-leb, lt-ltb, le-ltb, eq-eqb, ne-eqb}
-use Rattle.sets.specs.Sets.{has, plus, setOf, every, known, same, within}
+use Rattle.sets.specs.Members.{has, known}
+use Rattle.sets.specs.Sets.{plus, setOf, every, same, within}
 use Rattle.sets.proofs.Laws.{every-true, true-every, every-ext, setOf-below, has-setOf, members-equal, same-truth, either, true-known, has-known, has-zero, within-true, true-within}
 use Rattle.sets.proofs.Bits.{has-or}
 use Rattle.rules.specs.declared.Stage.{Stage}
 use Rattle.rules.specs.declared.Stage.the-variants.{Absent, Running, Finished, Crashed}
 use Rattle.rules.specs.declared.Process.{Process}
 use Rattle.rules.specs.declared.Machine.{Machine}
-use Rattle.rules.specs.State.{nobody, processOf, stageOf, valueOf, rowOf, cellOf, entered, wrote}
+use Rattle.rules.specs.Stands.{nobody, processOf, stageOf, valueOf, rowOf, cellOf, entered}
+use Rattle.rules.specs.State.{wrote}
 use Rattle.rules.specs.Shape.{goes, ends, shapedStage, shapedProcess, shapedRecords, shapedRegister, shapedRegisters, shaped}
 use Rattle.shape.specs.Coded.Columns.{LowestRows, lowsOf, ownsOf, cellGood, cellsGood, rowGood, rowsGood, ByRow, writersOf, lowestAt, lowestRow}
 use Rattle.shape.proofs.Arrays.{back-one}

@@ -7,7 +7,7 @@ ghost use Prim.Native.Nat.{ℕ, _+_, _-_, _≤_, _<_};
 ghost use lib.ListN.{getD};
 ghost use Rattle.sets.specs.Sets.{first, within};
 ghost use Rattle.rules.specs.Shape.{goes, ends, shapedStage, shapedProcess, shaped};
-ghost use Rattle.rules.specs.State.{rowIn, entered};
+ghost use Rattle.rules.specs.Stands.{rowIn, entered};
 ghost use lib.Dec.{leb};
 ghost use Rattle.shape.specs.Coded.Columns.{lowestAt, lowestRow, LowestRows, cellsGood, ByRow, ReadOff, writersOf, rowGood, rowsGood};
 

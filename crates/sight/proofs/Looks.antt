@@ -9,7 +9,7 @@ use Rattle.rules.specs.declared.Answer.{Answer}
 use Rattle.rules.specs.declared.Answer.the-variants.{Done, NotShaped, NoProcess}
 use Rattle.rules.specs.declared.Standing.{Standing}
 use Rattle.rules.specs.declared.Sight.{Sight}
-use Rattle.rules.specs.State.{processOf, stageOf}
+use Rattle.rules.specs.Stands.{processOf, stageOf}
 use Rattle.rules.specs.Shape.{shaped}
 use Rattle.rules.specs.Calls.{valuesOf, looked, blindly, unseen, lookOf}
 use Rattle.rules.proofs.Laws.Looks.{no-values}

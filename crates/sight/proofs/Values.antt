@@ -7,7 +7,7 @@ use native.Mathlib.Nat.{mul-le-mul}
 use native.Mathlib.Omega.{arith}
 use lib.ListN.{length, getD}
 use lib.Seq.{ext-getD}
-use Rattle.sets.specs.Sets.{has}
+use Rattle.sets.specs.Members.{has}
 use Rattle.rules.specs.Calls.{rowValues}
 use Rattle.rules.proofs.Laws.Looks.{row-values-at, row-values-long}
 use Rattle.shape.proofs.Arrays.{Upto}

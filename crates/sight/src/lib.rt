@@ -8,7 +8,7 @@ use rules::Standing;
 ghost use mathlib.Core.Path.{_≡_};
 ghost use mathlib.Core.Bool.{cond};
 ghost use Prim.Native.Nat.{_+_, _-_, _*_, _≤_};
-ghost use Rattle.sets.specs.Sets.{has};
+ghost use Rattle.sets.specs.Members.{has};
 ghost use Rattle.rules.specs.Calls.{lookOf, blindly, rowValues};
 
 // A look that shows no view.

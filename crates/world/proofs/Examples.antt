@@ -1,6 +1,7 @@
 -- The example of a world, computed.
 use mathlib.Core.Path.{refl}
-use Rattle.world.specs.Calls.{leaves, counts, ever, deposits, admits}
+use Rattle.world.specs.Calls.{leaves, counts, ever, deposits}
+use Rattle.world.specs.Counts.{admits}
 use Rattle.world.specs.Examples.{Computed}
 
 pub computed : Computed

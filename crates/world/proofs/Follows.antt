@@ -3,8 +3,9 @@ use mathlib.Core.Path.{_≡_, refl, sym, ap, ap₂, _∙_}
 use mathlib.Core.Bool.{Bool, _&&_, _||_}
 use mathlib.Core.List.{List, [], _∷_}
 use Prim.Native.Nat.{ℕ, _+_}
-use Rattle.sets.specs.Sets.{tick}
-use Rattle.world.specs.Calls.{Call, Taker, leaves, counts, ever, givesBy, deposits, isEnterOf, admits}
+use Rattle.sets.specs.Members.{tick}
+use Rattle.world.specs.Calls.{Call, Taker, leaves, counts, ever, givesBy, deposits}
+use Rattle.world.specs.Counts.{isEnterOf, admits}
 
 -- of states that meet I, which every call keeps
 pub record Follows {S T : Type 0} (t : Taker S) (u : Taker T) (map : S → T) (I : S → Type 0) : Type 0 where

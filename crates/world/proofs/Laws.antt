@@ -6,8 +6,9 @@ use mathlib.Core.List.{List, [], _∷_, _++_}
 use Prim.Native.Nat.{ℕ, suc, _+_}
 use native.Mathlib.Omega.{arith}
 use lib.ListN.{length}
-use Rattle.sets.specs.Sets.{tick}
-use Rattle.world.specs.Calls.{Call, Taker, leaves, counts, isAccepted, isRefused, ever, AfterSome}
+use Rattle.sets.specs.Members.{tick}
+use Rattle.world.specs.Calls.{Call, Taker, leaves, counts, ever}
+use Rattle.world.specs.Counts.{isAccepted, isRefused, AfterSome}
 use Rattle.world.specs.Statements.{OfEveryTaker}
 
 module _ {S : Type 0} (t : Taker S) where

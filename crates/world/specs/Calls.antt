@@ -1,11 +1,10 @@
 -- Lists of calls, and what they do to whoever takes them: an engine, or the world of a published program. Whatever is counted here is counted from
 -- the list, by recursion on it, and not read off a state.
-use mathlib.Core.Path.{_≡_}
-use mathlib.Core.Bool.{Bool, true, false, not, _&&_, _||_, cond}
-use mathlib.Core.List.{List, [], _∷_, _++_}
+use mathlib.Core.Bool.{Bool, false, _&&_, _||_, cond}
+use mathlib.Core.List.{List, [], _∷_}
 use Prim.Native.Nat.{ℕ, _+_}
 use lib.Dec.{eqb}
-use Rattle.sets.specs.Sets.{tick}
+use Rattle.sets.specs.Members.{tick}
 
 pub data Call : Type 0 where
   enters : ℕ → ℕ → Call
@@ -26,11 +25,6 @@ unfoldable pub counts : {S : Type 0} → Taker S → (Call → Bool → Bool) �
 counts t test s [] = 0
 counts t test s (c ∷ cs) = tick (test c (t .accepts s c)) + counts t test (t .after s c) cs
 
-abbrev pub isStep : Call → Bool
-isStep (enters p v) = false
-isStep (steps p) = true
-isStep (crashes p) = false
-
 abbrev pub isStepOf : ℕ → Call → Bool
 isStepOf p (enters q v) = false
 isStepOf p (steps q) = eqb q p
@@ -40,26 +34,10 @@ isStepOf p (crashes q) = false
 abbrev pub acceptedStepOf : ℕ → Call → Bool → Bool
 acceptedStepOf p c ok = isStepOf p c && ok
 
-abbrev pub acceptedStep : Call → Bool → Bool
-acceptedStep c ok = isStep c && ok
-
-abbrev pub isAccepted : Call → Bool → Bool
-isAccepted c ok = ok
-
-abbrev pub isRefused : Call → Bool → Bool
-isRefused c ok = not ok
-
 -- a test is passed after some of the calls: none of them, the first, the first two, .. all
 unfoldable pub ever : {S : Type 0} → Taker S → (S → Bool) → S → List Call → Bool
 ever t test s [] = test s
 ever t test s (c ∷ cs) = test s || ever t test (t .after s c) cs
-
--- the same said of prefixes; `ever-is-after-some` of proofs/Laws says that the two agree
-pub record AfterSome {S : Type 0} (t : Taker S) (test : S → Bool) (s : S) (cs : List Call) : Type 0 where
-  pub before : List Call
-  pub rest : List Call
-  pub whole : before ++ rest ≡ cs
-  pub there : test (leaves t s before) ≡ true
 
 -- the value that the call gives to process p, if it is an accepted enter of p; otherwise `other`
 abbrev pub givesBy : ℕ → Call → Bool → ℕ → ℕ
@@ -71,13 +49,3 @@ givesBy p (crashes q) ok other = other
 unfoldable pub deposits : {S : Type 0} → Taker S → S → List Call → ℕ → ℕ
 deposits t s [] p = 0
 deposits t s (c ∷ cs) p = givesBy p c (t .accepts s c) (deposits t (t .after s c) cs p)
-
--- an enter of process p is among the calls, and is accepted
-abbrev pub isEnterOf : ℕ → Call → Bool
-isEnterOf p (enters q v) = eqb q p
-isEnterOf p (steps q) = false
-isEnterOf p (crashes q) = false
-
-unfoldable pub admits : {S : Type 0} → Taker S → S → List Call → ℕ → Bool
-admits t s [] p = false
-admits t s (c ∷ cs) p = (isEnterOf p c && t .accepts s c) || admits t (t .after s c) cs p

@@ -5,7 +5,8 @@ use mathlib.Core.List.{List, [], _∷_}
 use Prim.Native.Nat.{ℕ, _-_}
 use lib.Dec.{eqb}
 use Rattle.world.specs.Programs.{Register, empty, holds, Program, writes, reads, returns, halted, accesses, _>>_, _>>=_}
-use Rattle.world.specs.Calls.{Call, enters, steps, crashes, leaves, counts, acceptedStepOf, acceptedStep, isAccepted, isRefused, ever, deposits, admits}
+use Rattle.world.specs.Calls.{Call, enters, steps, crashes, leaves, counts, acceptedStepOf, ever, deposits}
+use Rattle.world.specs.Counts.{acceptedStep, isAccepted, isRefused, admits}
 use Rattle.world.specs.World.{Algorithm, World, start, worldTaker}
 
 abbrev pub exchange : ℕ → ℕ → Program ℕ Register

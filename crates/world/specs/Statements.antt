@@ -5,7 +5,8 @@ use mathlib.Core.Bool.{Bool, true}
 use mathlib.Core.List.{List, _++_}
 use Prim.Native.Nat.{ℕ, _+_}
 use lib.ListN.{length}
-use Rattle.world.specs.Calls.{Call, Taker, leaves, counts, isAccepted, isRefused, ever, AfterSome}
+use Rattle.world.specs.Calls.{Call, Taker, leaves, counts, ever}
+use Rattle.world.specs.Counts.{isAccepted, isRefused, AfterSome}
 
 pub record OfEveryTaker (S : Type 0) (t : Taker S) : Type 0 where
   -- one list after another

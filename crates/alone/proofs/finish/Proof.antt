@@ -4,7 +4,8 @@ use mathlib.Core.Path.{_≡_, refl, sym, ap, _∙_}
 use Prim.Native.Nat.{ℕ}
 use native.Mathlib.Omega.{arith}
 use Rattle.rules.specs.declared.Stage.{Stage}
-use Rattle.rules.specs.State.{stageOf, withProcess}
+use Rattle.rules.specs.Stands.{stageOf}
+use Rattle.rules.specs.State.{withProcess}
 use Rattle.rules.specs.Calls.{done, finishAt, finishOf}
 use Rattle.rules.proofs.Laws.Did.{goes-on}
 use Rattle.rules.proofs.Typed.{machine-held}

@@ -4,9 +4,10 @@ use mathlib.Core.List.{List}
 use Prim.Native.Nat.{ℕ, zero, suc, _+_, _-_, _*_}
 use lib.Dec.{eqb}
 use lib.ListN.{set}
-use Rattle.sets.specs.Sets.{plus, size}
+use Rattle.sets.specs.Sets.{plus}
+use Rattle.sets.specs.Members.{size}
 use Rattle.rules.specs.declared.Machine.{Machine}
-use Rattle.rules.specs.State.{rowIn}
+use Rattle.rules.specs.Stands.{rowIn}
 use Rattle.rules.specs.Coded.Level.{gathered}
 use Rattle.alone.specs.declared.Landing.{Landing}
 use Rattle.alone.specs.declared.Landing.the-variants.{Lands, Stuck}

@@ -6,7 +6,8 @@ use native.Mathlib.Omega.{arith}
 use lib.Bits.{bitAnd}
 use denote.Ref.{now}
 use borrow.Author.Needs.{needs}
-use Rattle.sets.specs.Sets.{has, every}
+use Rattle.sets.specs.Members.{has}
+use Rattle.sets.specs.Sets.{every}
 use Rattle.findings.specs.Findings.{agree, view, sameAt}
 use Rattle.formats.proofs.Tests.{told}
 use Rattle.checker.proofs.Every.{every-more, every-fails}

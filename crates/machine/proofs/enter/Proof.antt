@@ -9,7 +9,7 @@ use Rattle.rules.specs.declared.Stage.{Stage}
 use Rattle.rules.specs.declared.Stage.the-variants.{Absent, Running, Finished, Crashed}
 use Rattle.rules.specs.declared.Process.{Process}
 use Rattle.rules.specs.declared.Machine.{Machine}
-use Rattle.rules.specs.State.{processOf, stageOf}
+use Rattle.rules.specs.Stands.{processOf, stageOf}
 use Rattle.rules.specs.declared.Answer.the-variants.{EnteredBefore}
 use Rattle.rules.specs.Calls.{refused, enterAt, enterOf}
 use Rattle.rules.specs.Statements.{Valid}

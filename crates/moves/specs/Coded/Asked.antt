@@ -7,7 +7,7 @@ use Rattle.rules.specs.declared.Stage.the-variants.{Absent, Running, Finished, 
 use Rattle.rules.specs.declared.Process.{Process}
 use Rattle.rules.specs.declared.Machine.{Machine}
 use Rattle.rules.specs.declared.Answer.the-variants.{NotShaped, NoProcess, NeverEntered, HasCrashed, HasFinished}
-use Rattle.rules.specs.State.{processOf}
+use Rattle.rules.specs.Stands.{processOf}
 use Rattle.rules.specs.Shape.{shaped}
 use Rattle.moves.specs.declared.Asked.{Asked}
 use Rattle.moves.specs.declared.Mover.{Mover}

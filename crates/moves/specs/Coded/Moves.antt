@@ -3,12 +3,13 @@ use mathlib.Core.Path.{_≡_}
 use Prim.Native.Nat.{ℕ, _+_, _-_}
 use mathlib.Core.Bool.{cond}
 use lib.Dec.{ltb, eqb}
-use Rattle.sets.specs.Sets.{size}
+use Rattle.sets.specs.Members.{size}
 use Rattle.rules.specs.declared.Stage.the-variants.{Running, Finished}
 use Rattle.rules.specs.declared.Machine.{Machine}
 use Rattle.rules.specs.declared.Answer.the-variants.{NoLevelBelow}
 use Rattle.rules.specs.declared.Called.{Called}
-use Rattle.rules.specs.State.{rowOf, withProcess, withRegister}
+use Rattle.rules.specs.Stands.{rowOf}
+use Rattle.rules.specs.State.{withProcess, withRegister}
 use Rattle.rules.specs.Calls.{done, refused, reading, stepOf}
 use Rattle.moves.specs.declared.Move.{Move}
 use Rattle.moves.specs.declared.Mover.{Mover}

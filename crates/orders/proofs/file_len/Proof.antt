@@ -4,7 +4,7 @@ use mathlib.Core.Path.{_≡_, sym, _∙_}
 use native.Mathlib.Omega.{arith}
 use lib.ListN.{length, getD}
 use borrow.Author.Needs.{needs}
-use Rattle.rules.specs.State.{nobody}
+use Rattle.rules.specs.Stands.{nobody}
 use Rattle.text.specs.Parts.{joined}
 use Rattle.orders.specs.Coded.Places.{partOf, machineBytes}
 use Rattle.orders.proofs.Places.{record-most, part-length, length-next, length-none}

@@ -6,7 +6,7 @@ use native.Mathlib.Omega.{arith}
 use lib.ListN.{length, getD}
 use denote.Ref.{now}
 use borrow.Author.Needs.{needs}
-use Rattle.sets.specs.Sets.{has, size}
+use Rattle.sets.specs.Members.{has, size}
 use Rattle.formats.specs.Records.{wordBytes}
 use Rattle.formats.proofs.Tests.{told}
 use Rattle.text.specs.Stores.{put}

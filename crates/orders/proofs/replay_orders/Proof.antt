@@ -6,7 +6,7 @@ use native.Mathlib.Omega.{arith}
 use lib.ListN.{length}
 use denote.Ref.{now}
 use borrow.Author.Needs.{needs}
-use Rattle.sets.specs.Sets.{tick}
+use Rattle.sets.specs.Members.{tick}
 use Rattle.rules.specs.declared.Machine.{Machine}
 use Rattle.rules.specs.declared.Called.{Called}
 use Rattle.history.specs.Runs.{Call, enters, steps, crashes, answer, isStep}

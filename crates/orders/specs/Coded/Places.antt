@@ -2,11 +2,11 @@
 use Prim.Native.Nat.{ℕ, _+_, _*_, _≤_}
 use mathlib.Core.Bool.{cond}
 use mathlib.Core.List.{List, [], _∷_, _++_}
-use Rattle.sets.specs.Sets.{has, size}
+use Rattle.sets.specs.Members.{has, size}
 use Rattle.rules.specs.declared.Stage.{Stage}
 use Rattle.rules.specs.declared.Stage.the-variants.{Absent, Running, Finished, Crashed}
 use Rattle.rules.specs.declared.Machine.{Machine}
-use Rattle.rules.specs.State.{stageOf, cellIn}
+use Rattle.rules.specs.Stands.{stageOf, cellIn}
 use Rattle.formats.specs.Records.{wordBytes}
 use Rattle.text.specs.Ascii.{ascii}
 use Rattle.text.specs.Parts.{joined}

@@ -5,7 +5,7 @@ use native.Mathlib.Omega.{arith}
 use lib.ListN.{length}
 use denote.Ref.{now}
 use borrow.Author.Needs.{needs}
-use Rattle.sets.specs.Sets.{size}
+use Rattle.sets.specs.Members.{size}
 use Rattle.formats.specs.ViewFile.{withView, testedAt, readFrom}
 use Rattle.formats.specs.declared.Views.{Views}
 use Rattle.formats.specs.Views.{noneOf}

@@ -6,7 +6,8 @@ use lib.Dec.{leb}
 use denote.Ref.{now}
 use borrow.Author.Tests.{le-leb, lt-leb}
 use borrow.Author.Needs.{needs}
-use Rattle.sets.specs.Sets.{has, first, within}
+use Rattle.sets.specs.Members.{has}
+use Rattle.sets.specs.Sets.{first, within}
 use Rattle.formats.specs.Records.{fits}
 use Rattle.formats.specs.ViewFile.{valuesFit}
 use Rattle.formats.proofs.Tests.{told}

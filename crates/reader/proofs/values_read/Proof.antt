@@ -7,7 +7,7 @@ use native.Mathlib.Omega.{arith}
 use lib.ListN.{set}
 use denote.Ref.{now}
 use borrow.Author.Needs.{needs}
-use Rattle.sets.specs.Sets.{has, count}
+use Rattle.sets.specs.Members.{has, count}
 use Rattle.sets.proofs.Laws.{count-le}
 use Rattle.formats.specs.Records.{wordAt}
 use Rattle.formats.specs.ViewFile.{valuesRead}

@@ -3,7 +3,7 @@ use Prim.Native.Nat.{ℕ, _+_, _≤_, _<_}
 use mathlib.Core.Bool.{cond}
 use lib.Dec.{eqb}
 use lib.ListN.{length}
-use Rattle.sets.specs.Sets.{tick}
+use Rattle.sets.specs.Members.{tick}
 use Rattle.rules.specs.declared.Answer.{Answer}
 use Rattle.rules.specs.declared.Machine.{Machine}
 use Rattle.rules.specs.Calls.{numberOf}

@@ -4,13 +4,14 @@ use mathlib.Core.Bool.{true, false≢true}
 use Prim.Native.Nat.{ℕ, suc, _+_, _-_, _*_, _≤_}
 use native.Mathlib.Nat.{mul-suc, mul-comm, mul-le-mul-left}
 use native.Mathlib.Omega.{arith}
-use Rattle.sets.specs.Sets.{size}
+use Rattle.sets.specs.Members.{size}
 use Rattle.rules.specs.declared.Stage.{Stage}
 use Rattle.rules.specs.declared.Stage.the-variants.{Absent, Running, Finished, Crashed}
 use Rattle.rules.specs.declared.Process.{Process}
 use Rattle.rules.specs.declared.Machine.{Machine}
 use Rattle.rules.specs.declared.Called.{Called}
-use Rattle.rules.specs.State.{stageOf, valueOf, rowOf, entered, finished, levelOf, madeOf, foundOf, accessesOf, withProcess, withRegister}
+use Rattle.rules.specs.Stands.{stageOf, valueOf, rowOf, entered}
+use Rattle.rules.specs.State.{finished, levelOf, madeOf, foundOf, accessesOf, withProcess, withRegister}
 use Rattle.rules.specs.Shape.{Held, ShapedStage, Shaped}
 use Rattle.rules.specs.Calls.{enterOf, stepOf, crashOf}
 use Rattle.rules.specs.Statements.{Valid, AccessesOfCalls}

@@ -11,7 +11,8 @@ use Rattle.rules.specs.declared.Machine.{Machine}
 use Rattle.rules.specs.declared.Answer.the-variants.{NotShaped, NoProcess, NeverEntered, HasCrashed, HasFinished, NoLevelBelow}
 use Rattle.rules.specs.declared.Called.{Called}
 use Rattle.rules.specs.declared.Sight.{Sight}
-use Rattle.rules.specs.State.{stageOf, finished, madeOf}
+use Rattle.rules.specs.Stands.{stageOf}
+use Rattle.rules.specs.State.{finished, madeOf}
 use Rattle.rules.specs.Shape.{shaped}
 use Rattle.rules.specs.Calls.{accepted, done, refused, tested, enterAt, enterOf, crashAt, crashOf, stepAt, stepOf, ifAccepted, stepsOf}
 use Rattle.rules.specs.Calls.{finishFrom, orAsAtEntry, finishAt, finishOf, looked, unseen, lookOf}

@@ -6,13 +6,14 @@ use Prim.Native.Nat.{ℕ, _+_, _-_, _≤_, _<_}
 use native.Mathlib.Omega.{arith}
 use lib.Dec.{leb, ltb, eqb}
 use borrow.Author.Tests.{leb-true, le-leb, lt-ltb, le-ltb, eq-eqb, ne-eqb}
-use Rattle.sets.specs.Sets.{size}
+use Rattle.sets.specs.Members.{size}
 use Rattle.rules.specs.declared.Stage.{Stage}
 use Rattle.rules.specs.declared.Stage.the-variants.{Absent, Running, Finished, Crashed}
 use Rattle.rules.specs.declared.Machine.{Machine}
 use Rattle.rules.specs.declared.Answer.the-variants.{NotShaped, NoProcess, NoLevelBelow, OutOfRange}
 use Rattle.rules.specs.declared.Called.{Called}
-use Rattle.rules.specs.State.{nobody, stageOf, rowOf, withProcess, withStage}
+use Rattle.rules.specs.Stands.{nobody, stageOf, rowOf}
+use Rattle.rules.specs.State.{withProcess, withStage}
 use Rattle.rules.specs.Shape.{Going, ShapedStage, Shaped, shaped}
 use Rattle.rules.specs.Calls.{accepted, done, refused, fresh, newOf, tested, enterAt, enterOf, crashAt, crashOf, reading, write, settle, access}
 use Rattle.rules.specs.Calls.{stepAt, stepOf}

@@ -4,13 +4,14 @@ use mathlib.Core.Logic.{_⊎_, inl, inr, _≢_}
 use mathlib.Core.Bool.{true}
 use Prim.Native.Nat.{ℕ, _≤_}
 use native.Mathlib.Omega.{arith}
-use Rattle.sets.specs.Sets.{has}
+use Rattle.sets.specs.Members.{has}
 use Rattle.rules.specs.declared.Stage.{Stage}
 use Rattle.rules.specs.declared.Stage.the-variants.{Running, Crashed}
 use Rattle.rules.specs.declared.Process.{Process}
 use Rattle.rules.specs.declared.Machine.{Machine}
 use Rattle.rules.specs.declared.Called.{Called}
-use Rattle.rules.specs.State.{processOf, stageOf, valueOf, rowOf, cellOf, crashed, levelOf, madeOf, foundOf, withProcess, withStage}
+use Rattle.rules.specs.Stands.{processOf, stageOf, valueOf, rowOf, cellOf}
+use Rattle.rules.specs.State.{crashed, levelOf, madeOf, foundOf, withProcess, withStage}
 use Rattle.rules.specs.State.{withRegister}
 use Rattle.rules.specs.Shape.{Held, Shaped}
 use Rattle.rules.specs.Calls.{enterOf, crashOf, stepOf, write}

@@ -5,7 +5,8 @@ use mathlib.Core.List.{List, [], _∷_, _++_}
 use Prim.Native.Nat.{ℕ}
 use lib.Dec.{leb, lit≤, lit<}
 use borrow.Author.Tests.{leb-true}
-use Rattle.sets.specs.Sets.{has, plus, first, every, within, count, size}
+use Rattle.sets.specs.Members.{has, count, size}
+use Rattle.sets.specs.Sets.{plus, first, every, within}
 use Rattle.rules.specs.declared.Stage.the-variants.{Running}
 use Rattle.rules.specs.declared.Answer.the-variants.{OutOfRange}
 use Rattle.rules.specs.State.{wrote, withRegister}

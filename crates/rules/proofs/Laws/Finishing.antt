@@ -7,14 +7,15 @@ use Prim.Native.Nat.{ℕ, zero, suc, _+_, _-_, _≤_, _<_}
 use native.Mathlib.Omega.{arith}
 use lib.Dec.{leb, eqb}
 use borrow.Author.Tests.{eqb-true, eq-eqb}
-use Rattle.sets.specs.Sets.{size}
+use Rattle.sets.specs.Members.{size}
 use Rattle.sets.specs.Lines.{when, firstThat}
 use Rattle.rules.specs.declared.Stage.{Stage}
 use Rattle.rules.specs.declared.Stage.the-variants.{Absent, Running, Finished, Crashed}
 use Rattle.rules.specs.declared.Machine.{Machine}
 use Rattle.rules.specs.declared.Answer.the-variants.{NotShaped, NoProcess, NoLevelBelow}
 use Rattle.rules.specs.declared.Called.{Called}
-use Rattle.rules.specs.State.{stageOf, rowOf, entered, finished, crashed, accessesOf}
+use Rattle.rules.specs.Stands.{stageOf, rowOf, entered}
+use Rattle.rules.specs.State.{finished, crashed, accessesOf}
 use Rattle.rules.specs.Shape.{Held, shaped}
 use Rattle.rules.specs.Calls.{numberOf, accepted, refused, crashOf, stepAt, stepOf, stepsOf, finishFrom, orAsAtEntry, finishAt, finishOf}
 use Rattle.rules.specs.Numbers.{crashLines}

@@ -7,7 +7,8 @@ use native.Mathlib.Omega.{arith}
 use lib.Dec.{leb, lit<}
 use lib.ListN.{getD, length-set, length-replicate}
 use borrow.Author.Tests.{lt-leb, le-leb}
-use Rattle.sets.specs.Sets.{has, plus, size}
+use Rattle.sets.specs.Members.{has, size}
+use Rattle.sets.specs.Sets.{plus}
 use Rattle.sets.proofs.Laws.{has-zero, has-plus-same, has-plus-other, has-plus-cases, plus-below}
 use Rattle.rules.specs.declared.Stage.{Stage}
 use Rattle.rules.specs.declared.Stage.the-variants.{Absent, Running, Finished, Crashed}
@@ -15,7 +16,8 @@ use Rattle.rules.specs.declared.Process.{Process}
 use Rattle.rules.specs.declared.Machine.{Machine}
 use Rattle.rules.specs.declared.Answer.the-variants.{NotShaped, NoProcess}
 use Rattle.rules.specs.declared.Called.{Called}
-use Rattle.rules.specs.State.{nobody, processOf, stageOf, valueOf, rowOf, cellOf, entered, finished, madeOf, foundOf, wrote, withProcess}
+use Rattle.rules.specs.Stands.{nobody, processOf, stageOf, valueOf, rowOf, cellOf, entered}
+use Rattle.rules.specs.State.{finished, madeOf, foundOf, wrote, withProcess}
 use Rattle.rules.specs.State.{withStage, withRegister}
 use Rattle.rules.specs.Shape.{Held, Going, Ended, ShapedStage, ShapedProcess, ShapedRegister, Shaped, shaped}
 use Rattle.rules.specs.Calls.{fresh, done, refused, reading, write, accepted, enterOf, stepOf, crashOf, stepsOf, finishFrom, finishAt}

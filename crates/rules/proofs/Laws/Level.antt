@@ -7,7 +7,8 @@ use native.Mathlib.Omega.{arith}
 use lib.Dec.{leb, eqb, lit≤}
 use lib.Seq.{set-set}
 use borrow.Author.Tests.{leb-true, le-leb, ne-eqb}
-use Rattle.sets.specs.Sets.{known, has, plus, size, setOf}
+use Rattle.sets.specs.Members.{known, has, size}
+use Rattle.sets.specs.Sets.{plus, setOf}
 use Rattle.sets.proofs.Laws.{same-truth, has-known, true-known, has-plus-cases, has-setOf, setOf-below}
 use Rattle.sets.proofs.Laws.{members-equal, plus-below}
 use Rattle.rules.specs.declared.Stage.{Stage}
@@ -16,7 +17,8 @@ use Rattle.rules.specs.declared.Process.{Process}
 use Rattle.rules.specs.declared.Machine.{Machine}
 use Rattle.rules.specs.declared.Answer.the-variants.{NoLevelBelow}
 use Rattle.rules.specs.declared.Called.{Called}
-use Rattle.rules.specs.State.{processOf, stageOf, valueOf, rowOf, finished, madeOf, foundOf, withProcess, withRegister}
+use Rattle.rules.specs.Stands.{processOf, stageOf, valueOf, rowOf}
+use Rattle.rules.specs.State.{finished, madeOf, foundOf, withProcess, withRegister}
 use Rattle.rules.specs.Shape.{Held, Going}
 use Rattle.rules.specs.Calls.{numberOf, done, reading, stepOf, ifAccepted, stepsOf, finishFrom}
 use Rattle.rules.specs.Coded.Level.{gathered}

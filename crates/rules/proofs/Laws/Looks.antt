@@ -8,7 +8,7 @@ use native.Mathlib.Omega.{arith}
 use lib.Dec.{leb}
 use lib.ListN.{length, getD, replicate}
 use borrow.Author.Tests.{le-leb}
-use Rattle.sets.specs.Sets.{has}
+use Rattle.sets.specs.Members.{has}
 use Rattle.sets.proofs.Laws.{has-known}
 use Rattle.rules.specs.declared.Stage.{Stage}
 use Rattle.rules.specs.declared.Stage.the-variants.{Absent, Running, Finished, Crashed}
@@ -16,7 +16,7 @@ use Rattle.rules.specs.declared.Machine.{Machine}
 use Rattle.rules.specs.declared.Answer.the-variants.{Done, NotShaped, NoProcess}
 use Rattle.rules.specs.declared.Standing.{Standing}
 use Rattle.rules.specs.declared.Sight.{Sight}
-use Rattle.rules.specs.State.{stageOf, cellIn, cellOf}
+use Rattle.rules.specs.Stands.{stageOf, cellIn, cellOf}
 use Rattle.rules.specs.Calls.{rowValues, valuesOf, looked, unseen, lookOf}
 use Rattle.rules.specs.Statements.{Valid, noView, ShowsView, WhatLooksShow}
 use Rattle.rules.proofs.Laws.Small.{cond-true, cond-false}

@@ -7,13 +7,14 @@ use Prim.Native.Nat.{ℕ, _≤_, _<_}
 use native.Mathlib.Omega.{arith}
 use lib.Dec.{leb, ltb, eqb}
 use borrow.Author.Tests.{leb-true, ltb-true, eq-eqb, ne-eqb}
-use Rattle.sets.specs.Sets.{size}
+use Rattle.sets.specs.Members.{size}
 use Rattle.rules.specs.declared.Stage.{Stage}
 use Rattle.rules.specs.declared.Stage.the-variants.{Absent, Running, Finished, Crashed}
 use Rattle.rules.specs.declared.Machine.{Machine}
 use Rattle.rules.specs.declared.Answer.{Answer}
 use Rattle.rules.specs.declared.Answer.the-variants.{NotShaped, NoProcess, NoLevelBelow, OutOfRange}
-use Rattle.rules.specs.State.{stageOf, rowOf, entered, finished, crashed}
+use Rattle.rules.specs.Stands.{stageOf, rowOf, entered}
+use Rattle.rules.specs.State.{finished, crashed}
 use Rattle.rules.specs.Shape.{Going, shaped}
 use Rattle.rules.specs.Calls.{numberOf, done, refused, fresh, newOf, enterAt, enterOf, crashAt, crashOf, reading, settle, access, stepAt}
 use Rattle.rules.specs.Calls.{stepOf, finishAt, finishOf, looked, unseen, lookOf}

@@ -5,7 +5,8 @@ use mathlib.Core.Bool.{Bool, true, false, _&&_, _||_, cond}
 use Prim.Native.Nat.{ℕ}
 use lib.Dec.{eqb}
 use borrow.Author.Tests.{eqb-true, eq-eqb}
-use Rattle.sets.specs.Sets.{has, plus}
+use Rattle.sets.specs.Members.{has}
+use Rattle.sets.specs.Sets.{plus}
 use Rattle.sets.proofs.Laws.{same-truth, has-known, has-plus-same, has-plus-keeps}
 use Rattle.rules.specs.Calls.{reading}
 use Rattle.rules.specs.Statements.{ReadFinds}

@@ -4,7 +4,7 @@ use mathlib.Core.Logic.{_≢_}
 use mathlib.Core.Bool.{Bool, true, false, _&&_, cond, true≢false}
 use Prim.Native.Nat.{ℕ, _+_, _-_}
 use lib.Dec.{leb, ltb, eqb}
-use Rattle.sets.specs.Sets.{size}
+use Rattle.sets.specs.Members.{size}
 use Rattle.rules.specs.declared.Stage.{Stage}
 use Rattle.rules.specs.declared.Stage.the-variants.{Absent, Running, Finished, Crashed}
 use Rattle.rules.specs.declared.Machine.{Machine}
@@ -12,7 +12,8 @@ use Rattle.rules.specs.declared.Answer.the-variants.{NotShaped, NoProces
 use Rattle.rules.specs.declared.Called.{Called}
 use Rattle.rules.specs.declared.Standing.{Standing}
 use Rattle.rules.specs.declared.Sight.{Sight}
-use Rattle.rules.specs.State.{stageOf, rowOf, withStage}
+use Rattle.rules.specs.Stands.{stageOf, rowOf}
+use Rattle.rules.specs.State.{withStage}
 use Rattle.rules.specs.Shape.{shaped}
 use Rattle.rules.specs.Calls.{numberOf, accepted, done, refused, fresh, newOf, tested, enterAt, enterOf, crashAt, crashOf, reading}
 use Rattle.rules.specs.Calls.{write, settle, access, stepAt, stepOf, finishFrom, orAsAtEntry, finishAt, finishOf, looked, unseen, lookOf}

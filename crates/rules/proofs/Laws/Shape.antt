@@ -6,13 +6,15 @@ use Prim.Native.Nat.{ℕ, _-_, _≤_, _<_}
 use native.Mathlib.Omega.{arith}
 use lib.Dec.{leb, eqb}
 use borrow.Author.Tests.{eqb-true, leb-true, leb-false, le-leb, lt-leb, eq-eqb}
-use Rattle.sets.specs.Sets.{known, has, first, every, within, size, same}
+use Rattle.sets.specs.Members.{known, has, size}
+use Rattle.sets.specs.Sets.{first, every, within, same}
 use Rattle.sets.proofs.Laws.{every-true, true-every, true-known, has-known, has-first, within-true, true-within}
 use Rattle.rules.specs.declared.Stage.{Stage}
 use Rattle.rules.specs.declared.Stage.the-variants.{Absent, Running, Finished, Crashed}
 use Rattle.rules.specs.declared.Process.{Process}
 use Rattle.rules.specs.declared.Machine.{Machine}
-use Rattle.rules.specs.State.{processOf, stageOf, valueOf, rowOf, cellOf, entered, wrote}
+use Rattle.rules.specs.Stands.{processOf, stageOf, valueOf, rowOf, cellOf, entered}
+use Rattle.rules.specs.State.{wrote}
 use Rattle.rules.specs.Shape.{Going, Ended, ShapedStage, ShapedProcess, ShapedRegister, Shaped, goes, ends, shapedStage, shapedProcess}
 use Rattle.rules.specs.Shape.{shapedRegister, shaped}
 use Rattle.rules.specs.Statements.{ShapeIsTested}

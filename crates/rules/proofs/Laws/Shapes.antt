@@ -8,7 +8,8 @@ use native.Mathlib.Omega.{arith}
 use lib.Dec.{leb, ltb, eqb, lit≤}
 use lib.ListN.{length, getD, drop}
 use borrow.Author.Tests.{ltb-true, eqb-true, eq-eqb, not-true, lt-leb}
-use Rattle.sets.specs.Sets.{known, has, every, size, same}
+use Rattle.sets.specs.Members.{known, has, size}
+use Rattle.sets.specs.Sets.{every, same}
 use Rattle.sets.proofs.Laws.{every-true, true-every, known-true, has-zero}
 use Rattle.rules.specs.declared.Stage.{Stage}
 use Rattle.rules.specs.declared.Stage.the-variants.{Absent, Running, Finished, Crashed}
@@ -17,7 +18,8 @@ use Rattle.rules.specs.declared.Answer.{Answer}
 use Rattle.rules.specs.declared.Answer.the-variants.{NotShaped, NoProcess, NoLevelBelow}
 use Rattle.rules.specs.declared.Called.{Called}
 use Rattle.rules.specs.declared.Sight.{Sight}
-use Rattle.rules.specs.State.{nobody, stageOf, valueOf, rowOf, cellOf, finished, foundOf, madeOf, wrote}
+use Rattle.rules.specs.Stands.{nobody, stageOf, valueOf, rowOf, cellOf}
+use Rattle.rules.specs.State.{finished, foundOf, madeOf, wrote}
 use Rattle.rules.specs.Shape.{Held, shapedRegister, shaped}
 use Rattle.rules.specs.Calls.{numberOf, accepted, done, refused, fresh, tested, enterAt, enterOf, crashAt, crashOf, settle, access, stepAt}
 use Rattle.rules.specs.Calls.{stepOf, ifAccepted, stepsOf, finishFrom, finishAt, finishOf, looked, unseen, lookOf}

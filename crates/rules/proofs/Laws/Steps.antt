@@ -9,7 +9,8 @@ use Rattle.rules.specs.declared.Answer.{Answer}
 use Rattle.rules.specs.declared.Answer.the-variants.{Done, NotShaped, NoProcess, EnteredBefore, NeverEntered, HasCrashed, HasFinished}
 use Rattle.rules.specs.declared.Answer.the-variants.{NoLevelBelow, OutOfRange}
 use Rattle.rules.specs.declared.Called.{Called}
-use Rattle.rules.specs.State.{stageOf, finished}
+use Rattle.rules.specs.Stands.{stageOf}
+use Rattle.rules.specs.State.{finished}
 use Rattle.rules.specs.Calls.{numberOf, accepted, done, stepOf, ifAccepted, stepsOf, finishFrom}
 
 -- An accepted call answers `Done`.

@@ -8,7 +8,8 @@ use lib.Seq.{getD-set-same, getD-set-other}
 use Rattle.sets.specs.Sets.{plus}
 use Rattle.rules.specs.declared.Process.{Process}
 use Rattle.rules.specs.declared.Machine.{Machine}
-use Rattle.rules.specs.State.{nobody, processOf, rowOf, cellOf, withProcess, withRegister}
+use Rattle.rules.specs.Stands.{nobody, processOf, rowOf, cellOf}
+use Rattle.rules.specs.State.{withProcess, withRegister}
 use Rattle.rules.specs.Shape.{Held}
 
 before : (l : ℕ) (p : ℕ) → l ≡ 32 → 1 ≤ p → p ≤ 32 → p - 1 < l

@@ -7,7 +7,8 @@ use native.Mathlib.Omega.{arith}
 use lib.Dec.{leb, ltb, eqb}
 use borrow.Author.Tests.{le-leb, lt-leb, lt-ltb, le-ltb, eq-eqb, ne-eqb}
 use Rattle.rules.specs.declared.Stage.{Stage}
-use Rattle.rules.specs.State.{entered, levelOf, madeOf, wrote}
+use Rattle.rules.specs.Stands.{entered}
+use Rattle.rules.specs.State.{levelOf, madeOf, wrote}
 use Rattle.rules.proofs.Laws.Small.{equal-or-not, at-most-or-above}
 
 abbrev pub lowestRow : ℕ → Stage → ℕ

@@ -2,7 +2,8 @@
 use mathlib.Core.Bool.{_&&_, _||_, cond}
 use Prim.Native.Nat.{ℕ}
 use lib.Dec.{leb, eqb}
-use Rattle.sets.specs.Sets.{has, setOf}
+use Rattle.sets.specs.Members.{has}
+use Rattle.sets.specs.Sets.{setOf}
 
 -- What is found in a row, the own register in it, by the last read there: after k accesses the registers f have been found, and those from k on are
 -- left to read; before the write, which comes first, the whole row is.

@@ -5,7 +5,7 @@ use Prim.Native.Nat.{_-_, _/_, _%_, _^_}
 use native.Mathlib.Omega.{arith}
 use lib.Dec.{eqb}
 use borrow.Author.Needs.{needs}
-use Rattle.sets.specs.Sets.{has}
+use Rattle.sets.specs.Members.{has}
 use Rattle.sets.proofs.Laws.{unknown-has, unknown-below, unknown-above, true-known}
 use Rattle.sets.proofs.has.Statement.{statement}
 use Rattle.sets.proofs.has.Tie as tie

@@ -9,7 +9,7 @@ use lib.ListN.{length, getD, length-set}
 use denote.Ref.{now}
 use Rattle.sets.specs.Sets.{every}
 use Rattle.rules.specs.declared.Process.{Process}
-use Rattle.rules.specs.State.{nobody, rowIn}
+use Rattle.rules.specs.Stands.{nobody, rowIn}
 use Rattle.rules.specs.Shape.{shapedProcess}
 use Rattle.shape.specs.Coded.Columns.{lowestRow, lowsOf, ByRow}
 use Rattle.shape.proofs.Arrays.{Upto, upto-none, upto-more, upto-map, getD-zeros, every-place}

@@ -6,7 +6,7 @@ use lib.Bits.{bitOr}
 use lib.ListN.{getD}
 use denote.Ref.{now}
 use Rattle.sets.specs.Sets.{every}
-use Rattle.rules.specs.State.{rowIn}
+use Rattle.rules.specs.Stands.{rowIn}
 use Rattle.shape.specs.Coded.Columns.{writersOf, rowGood, rowsGood}
 use Rattle.shape.proofs.Arrays.{every-place}
 use Rattle.shape.proofs.Rows.{writers-none, writers-more}

@@ -1,7 +1,7 @@
 -- `stage_good` meets its contract: each arm is given that the stage is its constructor.
 use mathlib.Core.Path.{_∙_, sym, ap}
 use denote.Ref.{now}
-use Rattle.rules.specs.State.{rowIn}
+use Rattle.rules.specs.Stands.{rowIn}
 use Rattle.rules.specs.Shape.{shapedStage}
 use borrow.Author.Needs.{needs}
 use Rattle.shape.proofs.stage_good.Statement.{statement}

@@ -10,7 +10,7 @@ use Rattle.rules.specs.declared.Stage.{Stage}
 use Rattle.rules.specs.declared.Stage.the-variants.{Absent, Running, Finished, Crashed}
 use Rattle.rules.specs.declared.Process.{Process}
 use Rattle.shape.specs.declared.Columns.{Columns}
-use Rattle.rules.specs.State.{rowIn}
+use Rattle.rules.specs.Stands.{rowIn}
 use Rattle.rules.specs.Shape.{shapedRecords}
 
 -- the lowest row written by a process that has entered, at level x after k accesses there: 33 if there is none

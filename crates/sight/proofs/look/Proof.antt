@@ -9,7 +9,7 @@ use Rattle.rules.specs.declared.Process.{Process}
 use Rattle.rules.specs.declared.Standing.{Standing}
 use Rattle.rules.specs.declared.Sight.{Sight}
 use Rattle.rules.specs.declared.Answer.the-variants.{Done}
-use Rattle.rules.specs.State.{stageOf}
+use Rattle.rules.specs.Stands.{stageOf}
 use Rattle.rules.specs.Calls.{blindly}
 use Rattle.rules.specs.Statements.{Valid}
 use Rattle.moves.proofs.Laws.{asked-valid, standing, at-most-32}

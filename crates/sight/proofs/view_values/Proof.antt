@@ -7,7 +7,7 @@ use native.Mathlib.Omega.{arith}
 use borrow.Author.Needs.{needs}
 use lib.ListN.{length, getD, length-set}
 use denote.Ref.{now}
-use Rattle.sets.specs.Sets.{has}
+use Rattle.sets.specs.Members.{has}
 use Rattle.shape.proofs.Arrays.{Upto, upto-none, upto-more}
 use Rattle.sight.proofs.Values.{values-all}
 use Rattle.sight.proofs.view_values.Statement.{statement}
