@@ -16,5 +16,5 @@ pub mod Finishing
 pub mod Table
 pub mod Looks
 pub mod Bare
-pub mod Examples
 pub mod Shapes
+pub mod Examples

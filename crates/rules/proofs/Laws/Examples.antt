@@ -18,12 +18,14 @@ use Rattle.rules.specs.Examples.{p1, p2, p3, p4, p5, p6, p7, p8, refusal
 use Rattle.rules.proofs.Laws.Small.{and-first, and-second}
 use Rattle.rules.proofs.Laws.Shape.{shaped-record}
 use Rattle.rules.proofs.Laws.Keeps.{meets-fresh, held-fresh, held-process, held-register}
+use Rattle.rules.proofs.Clauses.{surely}
+use Rattle.rules.proofs.Laws.Shapes.{surely-shaped}
 use Rattle.rules.proofs.Laws.Bare.{bareSteps, bareFrom, bareTo, bareLook, passes-bare}
 
--- P8's state is well shaped.
+-- P8's state is well shaped, by the test that is cheap to compute.
 pub crowded-shaped : shaped crowded ≡ true
-unfolding shaped shapedProcess shapedRegister every within first has plus count size wrote
-crowded-shaped = refl
+unfolding surely shapedProcess shapedRegister every within first has plus count size wrote
+crowded-shaped = surely-shaped crowded refl
 
 crowded-meets : Meets 2 crowded
 crowded-meets =
@@ -40,8 +42,8 @@ crowded-meets =
 
 -- So is the one with a count of 0.
 pub lonely-shaped : shaped lonely ≡ true
-unfolding shaped shapedProcess shapedRegister every within first has plus count size wrote
-lonely-shaped = refl
+unfolding surely shapedProcess shapedRegister every within first has plus count size wrote
+lonely-shaped = surely-shaped lonely refl
 
 lonely-meets : Meets 2 lonely
 lonely-meets =

@@ -194,7 +194,7 @@ above-shaped m x i a r c =
     none : has (rowOf m x) i ≡ false
     none = ap (λ w. has w i) r ∙ has-zero i
 
-surely-shaped : (m : Machine) → surely m ≡ true → shaped m ≡ true
+pub surely-shaped : (m : Machine) → surely m ≡ true → shaped m ≡ true
 unfolding shaped surely
 surely-shaped m e =
     both (records m) (rows 32 m) (and-first (records m) _ e)
