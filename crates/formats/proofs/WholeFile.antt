@@ -181,9 +181,10 @@ to-the-end s t (records (refused a at before v r l e q)) =
     absurd (record-refused s at (v .n) (v .own) a l e (sym (ap (λ (x : ViewsRead). fileNumber (x .answer)) q) ∙ zero-if (readOf s .answer) t))
 
 pub read-in-range : ReadInRange
-read-in-range s b t =
+read-in-range f t =
+    let s = f .content in
     let e = to-the-end s t (file-ends s) in
-    subst InRange (sym (ap (λ (x : ViewsRead). x .views) (e .same))) (walked-in-range s (length s) (e .places) (e .views) b (e .walked))
+    subst InRange (sym (ap (λ (x : ViewsRead). x .views) (e .same))) (walked-in-range s (length s) (e .places) (e .views) (f .bytes) (e .walked))
 
 pub read-place : ReadPlace
 read-place s t = ap (λ (x : ViewsRead). x .place) (to-the-end s t (file-ends s) .same)

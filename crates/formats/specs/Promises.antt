@@ -11,17 +11,21 @@ use Rattle.formats.specs.Range.{InRange}
 use Rattle.formats.specs.Views.{noneOf}
 use Rattle.formats.specs.ViewFile.{fileOf, readOf}
 
--- A list of bytes. What a function is handed as a slice is one (`slice-bytes` of proofs/Typed), so a promise that asks for it leaves no file out.
+-- A file holds bytes. What a function is handed as a slice is a file (`slice-file` of proofs/Typed).
 abbrev pub Bytes : List ℕ → Type 0
 Bytes s = (i : ℕ) → byteAt s i < 256
 
--- and what is written is bytes
+pub record File : Type 0 where
+  pub content : List ℕ
+  pub bytes : Bytes content
+
+-- What is written is bytes.
 abbrev pub WritesBytes : Type 0
 WritesBytes = (v : Views) → InRange v → Bytes (fileOf v)
 
 -- A file that is read gives views that a file can carry,
 abbrev pub ReadInRange : Type 0
-ReadInRange = (s : List ℕ) → Bytes s → isWhole (readOf s .answer) ≡ true → InRange (readOf s .views)
+ReadInRange = (f : File) → isWhole (readOf (f .content) .answer) ≡ true → InRange (readOf (f .content) .views)
 
 -- and its place is its length.
 abbrev pub ReadPlace : Type 0

@@ -146,5 +146,6 @@ pub every-run-accepted : EveryRunAccepted
 every-run-accepted n low high cs w = accepts n cs (runs n cs) (demand-three n low high cs) w
 
 pub every-file-accepted : EveryFileAccepted
-every-file-accepted s b budget =
-    accepts (processesOf s) (callsOf s budget) (replayOf s budget .machine) (every-file-demand-three s budget) (file-words s b budget)
+every-file-accepted f budget =
+    let s = f .content in
+    accepts (processesOf s) (callsOf s budget) (replayOf s budget .machine) (every-file-demand-three s budget) (file-words s (f .bytes) budget)

@@ -152,20 +152,21 @@ held-carried {s} b (step {at = at} {cs = cs} h r) = carried-more cs (steps (byte
 held-carried {s} b (crash {at = at} {cs = cs} h r) = carried-more cs (crashes (byteAt s (at + 2))) (held-carried b h) (b (at + 2))
 
 pub every-file-of-calls : EveryFileOfCalls
-every-file-of-calls s b budget z =
-    let f = every-file-holds s budget z in
+every-file-of-calls f budget z =
+    let h = every-file-holds (f .content) budget z in
     record {
-      carried = held-carried b (f .calls);
-      bytes = held-bytes b (f .calls) ∙ ap (λ (n : ℕ). orderFile n (callsOf s budget)) (sym (f .processes));
+      carried = held-carried (f .bytes) (h .calls);
+      bytes = held-bytes (f .bytes) (h .calls) ∙ ap (λ (n : ℕ). orderFile n (callsOf (f .content) budget)) (sym (h .processes));
     }
 
 -- the calls of a refused header too, which are none
 pub file-calls : (s : List ℕ) → Bytes s → (budget : ℕ) (h : Header) → headerOf s ≡ h → FileCalls (callsBy s budget h)
 file-calls s b budget (Header.Fault a) e = tt
-file-calls s b budget (Header.Of n) e = rw e at (every-file-of-calls s b budget (header-whole s n e) .carried)
+file-calls s b budget (Header.Of n) e = rw e at (every-file-of-calls (record { content = s; bytes = b }) budget (header-whole s n e) .carried)
 
 pub whole-file-of-calls : WholeFileOfCalls
-whole-file-of-calls s b budget z =
+whole-file-of-calls f budget z =
+    let s = f .content in
     let h = zero-read s budget z in
     let all : take (replayOf s budget .place) s ≡ s = ap (λ (k : ℕ). take k s) (whole-place s budget z) ∙ take-length s in
-    sym all ∙ every-file-of-calls s b budget (header-whole s (h .0) (h .1)) .bytes
+    sym all ∙ every-file-of-calls f budget (header-whole s (h .0) (h .1)) .bytes

@@ -26,7 +26,7 @@ use Rattle.formats.specs.Records.{byteAt}
 use Rattle.formats.specs.Table.{headerLines}
 use Rattle.formats.specs.Views.{owns, seenBy, valueBy}
 use Rattle.formats.specs.ViewFile.{readOf, readWhole}
-use Rattle.formats.specs.Promises.{Bytes}
+use Rattle.formats.specs.Promises.{Bytes, File}
 use Rattle.findings.specs.declared.Finding.{Finding}
 use Rattle.findings.specs.Findings.{found, checkOf}
 use Rattle.findings.specs.Verdict.{judged, verdictOf}
@@ -66,18 +66,18 @@ abbrev pub OrderFileBytes : Type 0
 OrderFileBytes = (n : ℕ) → n ≤ 32 → (cs : List Call) → FileCalls cs → Bytes (orderFile n cs)
 
 -- Every file is such a file up to its place, if its header has no fault: a call that is taken is one that a record can carry, and its record has just
--- the bytes that it is written with. `Bytes s`, here and below, leaves nothing open: every slice of bytes that a function is handed is such a list
--- (`slice-bytes` of formats/proofs/Typed).
+-- the bytes that it is written with. What a function is handed as a slice is a file (`slice-file` of formats/proofs/Typed).
 pub record OfCalls (s : List ℕ) (budget : ℕ) : Type 0 where
   pub carried : FileCalls (callsOf s budget)
   pub bytes : take (replayOf s budget .place) s ≡ orderFile (processesOf s) (callsOf s budget)
 
 abbrev pub EveryFileOfCalls : Type 0
-EveryFileOfCalls = (s : List ℕ) → Bytes s → (budget : ℕ) → firstThat (headerLines s) ≡ 0 → OfCalls s budget
+EveryFileOfCalls = (f : File) (budget : ℕ) → firstThat (headerLines (f .content)) ≡ 0 → OfCalls (f .content) budget
 
 -- So a file that is read whole is the file of its calls, byte for byte.
 abbrev pub WholeFileOfCalls : Type 0
-WholeFileOfCalls = (s : List ℕ) → Bytes s → (budget : ℕ) → fileNumber (replayOf s budget .answer) ≡ 0 → s ≡ orderFile (processesOf s) (callsOf s budget)
+WholeFileOfCalls = (f : File) (budget : ℕ) → fileNumber (replayOf (f .content) budget .answer) ≡ 0
+    → f .content ≡ orderFile (processesOf (f .content)) (callsOf (f .content) budget)
 
 -- "After a refused header the state is a fresh machine of one process and the three counts are 0", at every budget: "its own faults come before 13".
 pub record NoneTaken (k : ℕ) (r : Replayed) : Type 0 where
@@ -164,6 +164,6 @@ pub record Accepted (m : Machine) : Type 0 where
 abbrev pub EveryRunAccepted : Type 0
 EveryRunAccepted = OfEveryRun λ n cs. Words (runs n cs) → Accepted (runs n cs)
 
--- so of every state that an order file leaves; `Bytes s` as above: a value of four bytes is then a 32-bit number
+-- so of every state that an order file leaves: a value of four bytes is a 32-bit number
 abbrev pub EveryFileAccepted : Type 0
-EveryFileAccepted = (s : List ℕ) → Bytes s → (budget : ℕ) → Accepted (replayOf s budget .machine)
+EveryFileAccepted = (f : File) (budget : ℕ) → Accepted (replayOf (f .content) budget .machine)

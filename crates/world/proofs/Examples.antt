@@ -2,10 +2,11 @@
 use mathlib.Core.Path.{refl}
 use Rattle.world.specs.Calls.{leaves, counts, ever, deposits}
 use Rattle.world.specs.Counts.{admits}
+use Rattle.world.specs.Accesses.{accessesMade}
 use Rattle.world.specs.Examples.{Computed}
 
 pub computed : Computed
-unfolding leaves counts ever deposits admits
+unfolding leaves counts ever deposits admits accessesMade
 computed =
     record {
       one-holds = refl;
@@ -17,6 +18,7 @@ computed =
       two-stepped = refl;
       stepped = refl;
       accepted = refl;
+      made = refl;
       two-goes = refl;
       two-rests = refl;
       three-rests = refl;

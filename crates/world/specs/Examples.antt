@@ -8,6 +8,7 @@ use Rattle.world.specs.Programs.{Register, empty, holds, Program, writes
 use Rattle.world.specs.Calls.{Call, enters, steps, crashes, leaves, counts, acceptedStepOf, ever, deposits}
 use Rattle.world.specs.Counts.{acceptedStep, isAccepted, isRefused, admits}
 use Rattle.world.specs.World.{Algorithm, World, start, worldTaker}
+use Rattle.world.specs.Accesses.{Access, wroteTo, readFrom, accessesMade}
 
 abbrev pub exchange : ℕ → ℕ → Program ℕ Register
 exchange p v = do
@@ -39,6 +40,8 @@ pub record Computed : Type 0 where
   pub two-stepped : counts (worldTaker two) (acceptedStepOf 2) (start two) calls ≡ 2
   pub stepped : counts (worldTaker two) acceptedStep (start two) calls ≡ 3
   pub accepted : counts (worldTaker two) isAccepted (start two) calls ≡ 6
+  -- which they are: 1 writes, 2 writes and finds what 1 wrote
+  pub made : accessesMade two (start two) calls ≡ wroteTo 1 7 ∷ wroteTo 2 9 ∷ readFrom 1 (holds 7) ∷ []
   -- 2 has had an access to make after some of the calls, though not after all; 3 never has
   pub two-goes : ever (worldTaker two) (λ w. accesses (w .remains 2)) (start two) calls ≡ true
   pub two-rests : accesses (after calls .remains 2) ≡ false

@@ -3,5 +3,6 @@ pub mod Programs
 pub mod Calls
 pub mod Counts
 pub mod World
+pub mod Accesses
 pub mod Statements
 pub mod Examples
