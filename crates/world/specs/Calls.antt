@@ -30,7 +30,7 @@ isStepOf p (enters q v) = false
 isStepOf p (steps q) = eqb q p
 isStepOf p (crashes q) = false
 
--- the tests: an accepted step of p, an accepted step, an accepted call, a refused one
+-- an accepted step of p; specs/Counts has the other tests
 abbrev pub acceptedStepOf : ℕ → Call → Bool → Bool
 acceptedStepOf p c ok = isStepOf p c && ok
 
