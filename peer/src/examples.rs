@@ -4,7 +4,7 @@ use crate::calls::p8;
 use crate::listing::assemble;
 use crate::machine::{Machine, View};
 use crate::make_orders::make_orders;
-use crate::orders::{replay, replay_program, BUDGET};
+use crate::orders::{replay, replay_program, Run, BUDGET};
 use crate::views::{read_views, verdict_program, write_views};
 
 fn file(listing: &str) -> Vec<u8> {
@@ -23,6 +23,8 @@ fn verdict(listing: &str) -> String {
 
 const PRINTED: &str =
     "machine 2\nenter 1 7\nenter 2 9\nstep 1 times 3\nstep 2 times 3\nstep 1 times 3\nstep 2\n";
+
+const P9: &str = "machine 4\nview 1: 1:1 4:4\nview 2: 1:1 2:2 3:3 4:4\nview 3: 3:3 4:4\n";
 
 #[test]
 fn p1_sizes() {
@@ -119,8 +121,7 @@ fn p8_seven() {
 
 #[test]
 fn p9_neither_inside() {
-    let text = "machine 4\nview 1: 1:1 4:4\nview 2: 1:1 2:2 3:3 4:4\nview 3: 3:3 4:4\n";
-    assert_eq!(verdict(text), "verdict 21 56 1 3\n");
+    assert_eq!(verdict(P9), "verdict 21 56 1 3\n");
 }
 
 #[test]
@@ -193,10 +194,13 @@ fn budgets() {
     let one_byte = file("machine 2\nbytes 0\n");
     let run = replay(&one_byte, 0);
     assert_eq!((run.number, run.place, run.taken), (13, 3, 0));
-    assert_eq!(replay(&one_byte, 1).number, 11);
+    let run = replay(&one_byte, 1);
+    assert_eq!((run.number, run.place, run.taken), (11, 3, 0));
     // A header's own faults come before 13.
     assert_eq!(replay(&file("machine 33\nstep 1\n"), 0).number, 8);
     assert_eq!(replay(b"", 0).number, 9);
+    assert_eq!(replay(b"M", 0).number, 11);
+    assert_eq!(replay(b"MN", 0).number, 24);
     // The printed run with 11 and 12 orders.
     let run = replay(&file(PRINTED), 11);
     assert_eq!(
@@ -210,28 +214,40 @@ fn budgets() {
         (run.number, run.place, run.taken, run.accesses, run.refused),
         (13, 6, 1, 0, 1)
     );
+    // A cut record too, whether one byte is left of it or more.
+    for (line, number, place) in [("bytes 69", 11, 6), ("bytes 69 78 1", 24, 9)] {
+        let bytes = file(&format!("machine 2\nstep 1\n{line}\n"));
+        for (budget, expected) in [(1, (13, 6)), (2, (number, place))] {
+            let run = replay(&bytes, budget);
+            assert_eq!((run.number, run.place), expected, "{line}");
+            assert_eq!((run.taken, run.accesses, run.refused), (1, 0, 1));
+        }
+    }
 }
 
 #[test]
 fn headers() {
     let expected = [
-        (&b""[..], 9),
-        (b"M", 11),
-        (b"X", 11),
-        (b"MX", 9),
-        (b"XN", 9),
-        (b"EN", 9),
-        (b"MN", 11),
-        (b"MN\x00", 8),
-        (b"MN\x21", 8),
-        (b"XY\x00", 9),
+        (&b""[..], 9, 0),
+        (b"M", 11, 0),
+        (b"X", 11, 0),
+        (b"MX", 9, 0),
+        (b"XN", 9, 0),
+        (b"EN", 9, 0),
+        (b"MN", 24, 2),
+        (b"MN\x00", 8, 0),
+        (b"MN\x21", 8, 0),
+        (b"XY\x00", 9, 0),
     ];
-    for (bytes, number) in expected {
+    for (bytes, number, place) in expected {
         assert_eq!(
             replay_program(bytes),
-            format!("run {number} 0 0 0 0\np 1 absent 0 0 -\nparticipants 0\n")
+            format!("run {number} {place} 0 0 0\np 1 absent 0 0 -\nparticipants 0\n")
         );
-        assert_eq!(verdict_program(bytes), format!("verdict {number} 0 0 0\n"));
+        assert_eq!(
+            verdict_program(bytes),
+            format!("verdict {number} {place} 0 0\n")
+        );
         let reading = read_views(bytes);
         assert_eq!((reading.n, reading.views.len()), (0, 0));
     }
@@ -239,25 +255,30 @@ fn headers() {
 
 #[test]
 fn later_orders() {
-    // After an accepted enter the fault stands at 10.
+    // After an accepted enter the faulty record begins at 10.
     let expected = [
-        ("bytes 77", 11),
-        ("bytes 0", 11),
-        ("bytes 77 78", 12),
-        ("machine 2", 12),
-        ("machine 0", 12),
-        ("bytes 86 87", 10),
-        ("view 1: 1:7", 10),
-        ("bytes 0 0", 10),
-        ("bytes 69 78", 11),
-        ("bytes 69 78 1 0 0 0", 11),
-        ("bytes 83 84", 11),
-        ("bytes 67 82", 11),
+        ("bytes 77", 11, 10),
+        ("bytes 0", 11, 10),
+        ("bytes 77 78", 12, 10),
+        ("machine 2", 12, 10),
+        ("machine 0", 12, 10),
+        ("bytes 86 87", 10, 10),
+        ("view 1: 1:7", 10, 10),
+        ("bytes 0 0", 10, 10),
+        ("bytes 69", 11, 10),
+        ("bytes 69 78", 24, 12),
+        ("bytes 69 78 1", 24, 13),
+        ("bytes 69 78 3", 24, 13),
+        ("bytes 69 78 1 0 0 0", 24, 16),
+        ("bytes 83 84", 24, 12),
+        ("bytes 67 82", 24, 12),
     ];
-    for (line, number) in expected {
+    for (line, number, place) in expected {
         assert_eq!(
             run(&format!("machine 2\nenter 2 7\n{line}\n")),
-            format!("run {number} 10 1 0 0\np 1 absent 0 0 -\np 2 running 2 0 -\nparticipants 1\n"),
+            format!(
+                "run {number} {place} 1 0 0\np 1 absent 0 0 -\np 2 running 2 0 -\nparticipants 1\n"
+            ),
             "{line}"
         );
     }
@@ -265,33 +286,95 @@ fn later_orders() {
 
 #[test]
 fn later_views() {
-    // After a view of process 2 the fault stands at 14.
+    // After a view of process 2 the faulty record begins at 14.
     let expected = [
-        ("bytes 86", 11),
-        ("bytes 77 78", 12),
-        ("machine 2", 12),
-        ("enter 1 7", 10),
-        ("step 1", 10),
-        ("bytes 1 2", 10),
-        ("bytes 86 87", 11),
-        ("bytes 86 87 0 0 0 0", 11),
-        ("view 0: 1:7", 14),
-        ("view 3: 3:7", 14),
-        ("bytes 86 87 3 255 255 255 255", 14),
-        ("view 2:", 15),
-        ("view 2: 3:7", 15),
-        ("bytes 86 87 2 255 255 255 255", 15),
-        ("view 1: 1:7 3:7", 16),
-        ("bytes 86 87 1 4 0 0 0", 16),
-        ("bytes 86 87 1 3 0 0 0 7 0 0 0 9 0 0", 11),
+        ("bytes 86", 11, 14),
+        ("bytes 77", 11, 14),
+        ("bytes 77 78", 12, 14),
+        ("machine 2", 12, 14),
+        ("enter 1 7", 10, 14),
+        ("step 1", 10, 14),
+        ("bytes 1 2", 10, 14),
+        ("bytes 86 87", 24, 16),
+        // 24 in the fixed bytes comes before 14, 15 and 16.
+        ("bytes 86 87 0", 24, 17),
+        ("bytes 86 87 0 0 0 0", 24, 20),
+        ("bytes 86 87 3 255 255 255", 24, 20),
+        ("bytes 86 87 2 255 255 255", 24, 20),
+        ("bytes 86 87 1 255 255 255", 24, 20),
+        ("view 0: 1:7", 14, 14),
+        ("view 3: 3:7", 14, 14),
+        ("bytes 86 87 0 1 0 0 0", 14, 14),
+        ("bytes 86 87 3 255 255 255 255", 14, 14),
+        ("view 2:", 15, 14),
+        ("view 2: 3:7", 15, 14),
+        ("bytes 86 87 2 255 255 255 255", 15, 14),
+        ("view 1: 1:7 3:7", 16, 14),
+        ("bytes 86 87 1 4 0 0 0", 16, 14),
+        // 24 in the values comes after them.
+        ("bytes 86 87 1 3 0 0 0", 24, 21),
+        ("bytes 86 87 1 3 0 0 0 7 0 0 0", 24, 25),
+        ("bytes 86 87 1 3 0 0 0 7 0 0 0 9 0 0", 24, 28),
     ];
-    for (line, number) in expected {
+    for (line, number, place) in expected {
         let text = format!("machine 2\nview 2: 2:9\n{line}\n");
         assert_eq!(
             verdict(&text),
-            format!("verdict {number} 14 0 0\n"),
+            format!("verdict {number} {place} 0 0\n"),
             "{line}"
         );
+    }
+}
+
+/// How many records the first k bytes of a good file hold whole, and the number and place for these bytes. The
+/// records begin and end at `bounds`.
+fn cut(bounds: &[usize], k: usize) -> (usize, u32, usize) {
+    let whole = bounds.iter().filter(|&&bound| bound <= k).count() - 1;
+    let mark = bounds[whole];
+    let (number, place) = match k - mark {
+        0 if k == 0 => (9, 0),
+        0 => (0, k),
+        1 => (11, mark),
+        _ => (24, k),
+    };
+    (whole, number, place)
+}
+
+#[test]
+fn every_cut_of_the_printed_run() {
+    let bytes = file(PRINTED);
+    let bounds = [0, 3, 10, 17, 20, 23, 26, 29, 32, 35, 38, 41, 44, 47];
+    for k in 0..=47 {
+        let (whole, number, place) = cut(&bounds, k);
+        let taken = whole.saturating_sub(1);
+        let expected = Run {
+            number,
+            place,
+            taken,
+            accesses: taken.saturating_sub(2).min(9),
+            refused: taken / 12,
+            machine: replay(&bytes[..bounds[whole]], BUDGET).machine,
+        };
+        assert_eq!(replay(&bytes[..k], BUDGET), expected, "{k}");
+    }
+}
+
+#[test]
+fn every_cut_of_p9() {
+    let bytes = file(P9);
+    let bounds = [0, 3, 18, 41, 56];
+    for k in 0..=56 {
+        let (whole, number, place) = cut(&bounds, k);
+        let reading = read_views(&bytes[..k]);
+        let (n, views) = if number == 0 { (4, whole - 1) } else { (0, 0) };
+        assert_eq!((reading.number, reading.place), (number, place), "{k}");
+        assert_eq!((reading.n, reading.views.len()), (n, views), "{k}");
+        if k < 56 {
+            assert_eq!(
+                verdict_program(&bytes[..k]),
+                format!("verdict {number} {place} 0 0\n")
+            );
+        }
     }
 }
 

@@ -1,4 +1,4 @@
-//! What both kinds of file share: the marks, the header and little-endian numbers.
+//! What both kinds of file share: the marks, the header, the place of a refusal and little-endian numbers.
 
 /// The programs take at most this many bytes.
 pub const MOST_BYTES: usize = 65_535;
@@ -6,7 +6,7 @@ pub const MOST_BYTES: usize = 65_535;
 /// The header, `MN` and n, is this long.
 pub const HEADER: usize = 3;
 
-/// n, or the number that refuses the header. The place is then 0.
+/// n, or the number that refuses the header, whose mark stands at 0.
 pub fn read_header(file: &[u8]) -> Result<usize, u32> {
     if file.is_empty() {
         return Err(9);
@@ -18,13 +18,23 @@ pub fn read_header(file: &[u8]) -> Result<usize, u32> {
         return Err(9);
     }
     if file.len() < HEADER {
-        return Err(11);
+        return Err(24);
     }
     let n = file[2] as usize;
     if n < 1 || n > 32 {
         return Err(8);
     }
     Ok(n)
+}
+
+/// The place answered beside the number that refuses the record whose mark stands at `mark`. 24, document 02's
+/// number for a cut body, names the first missing byte, which is the file's length; any other the mark.
+pub fn refusal_place(file: &[u8], mark: usize, number: u32) -> usize {
+    if number == 24 {
+        file.len()
+    } else {
+        mark
+    }
 }
 
 /// The little-endian number in four bytes.

@@ -423,28 +423,33 @@ fn bad_first(random: &mut Random, n: usize, turn: usize) -> Vec<u8> {
     file
 }
 
-/// A record that is refused, by turns, after good orders, at the end or with orders after it.
+/// A record that is refused, by turns, after good orders. A cut one ends the file, another may have orders after it.
 fn bad_later(random: &mut Random, n: usize, turn: usize) -> Vec<u8> {
     let orders = any_run(random, n);
     let k = random.below(orders.len() + 1);
     let mut file = fitting(n, &orders[..k], 60_000);
     let n = n as u8;
     let more = random.one_in(2);
-    match turn % 8 {
+    let view = [b'V', b'W', 1, 1, 0, 0, 0, 7, 0, 0, 0];
+    let kind = turn % 8;
+    match kind {
         0 => file.extend([b'M', b'N', n]),
         1 => file.extend(b"MN"),
-        2 => file.extend([b'V', b'W', 1, 1, 0, 0, 0, 7, 0, 0, 0]),
+        // Cut after the mark.
+        2 => file.extend(random.pick(&[b"EN", b"ST", b"CR"])),
         3 => file.extend([random.byte(), random.byte()]),
-        4 => file.extend([random.pick(b"MESCV")]),
-        5 => file.extend(random.pick(&[b"EN", b"ST", b"CR", b"VW", b"NE", b"en"])),
-        6 => {
+        4 => file.extend(random.pick(&[&view[..], b"VW", b"NE", b"en"])),
+        // Cut in the body.
+        5 => {
             let record = Order::Enter(1, random.value()).bytes();
             let length = random.from_to(3, 6);
             file.extend(&record[..length]);
         }
+        // Cut in the mark.
+        6 => file.extend([random.pick(b"MESCV")]),
         _ => file.extend([0, 0, 0]),
     }
-    if more {
+    if more && ![2, 5, 6].contains(&kind) {
         for order in orders[k..].iter().take(100) {
             file.extend(order.bytes());
         }
@@ -474,6 +479,7 @@ fn any_records(random: &mut Random, n: usize) -> Vec<u8> {
 #[cfg(test)]
 mod tests {
     use super::*;
+    use crate::files::HEADER;
     use crate::orders::{read_order, replay, Run, BUDGET};
     use crate::views::{check, read_views, views_of, write_views};
     use std::collections::{BTreeMap, BTreeSet};
@@ -489,7 +495,7 @@ mod tests {
     fn retake(file: &[u8], run: &Run) -> Vec<(Order, u32)> {
         let mut machine = Machine::fresh(run.machine.n);
         let mut orders = Vec::new();
-        let mut at = 3;
+        let mut at = HEADER;
         for _ in 0..run.taken {
             let order = read_order(file, at).unwrap();
             orders.push((order, order.give(&mut machine)));
@@ -542,6 +548,8 @@ mod tests {
         let mut stages: BTreeMap<&str, usize> = BTreeMap::new();
         // (n, level) of finished processes.
         let mut ends: BTreeSet<(usize, usize)> = BTreeSet::new();
+        // The cut records of each 216 seeds: their number, whether a header, and how much is left, up to 3 bytes.
+        let mut cuts = vec![BTreeSet::new(); 4];
         let mut too_long = 0;
         for seed in 0..864 {
             let file = make_orders(seed);
@@ -555,6 +563,18 @@ mod tests {
             let machine = run.machine;
             laws(&orders, &machine);
             *files.entry(run.number).or_default() += 1;
+            if [11, 24].contains(&run.number) {
+                let whole = orders.iter().map(|(order, _)| order.bytes().len());
+                let header = file.len() < HEADER;
+                let mark = if header {
+                    0
+                } else {
+                    HEADER + whole.sum::<usize>()
+                };
+                let left = file.len() - mark;
+                assert_eq!(run.place, if left == 1 { mark } else { file.len() });
+                cuts[seed as usize / 216].insert((run.number, header, left.min(3)));
+            }
             for (_, answer) in orders {
                 *answers.entry(answer).or_default() += 1;
             }
@@ -576,8 +596,16 @@ mod tests {
         );
         assert_eq!(
             files.keys().copied().collect::<Vec<_>>(),
-            [0, 8, 9, 10, 11, 12]
+            [0, 8, 9, 10, 11, 12, 24]
         );
+        let every_cut = BTreeSet::from([
+            (11, false, 1),
+            (11, true, 1),
+            (24, false, 2),
+            (24, false, 3),
+            (24, true, 2),
+        ]);
+        assert_eq!(cuts, vec![every_cut; 4]);
         assert_eq!(
             answers.keys().copied().collect::<Vec<_>>(),
             [0, 2, 3, 4, 5, 6]

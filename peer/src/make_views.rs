@@ -1,6 +1,6 @@
 //! Random view files. The seed decides all: n is 1 + seed mod 32, the style is seed mod 29.
 //! So 32 seeds in a row have all sizes, 29 all styles, and 928 each style with each size. Some of the
-//! faulty styles take their kinds by turns, seed / 29: 174 seeds in a row have them all.
+//! faulty styles take their kinds by turns, seed / 29: 203 seeds in a row have them all.
 
 use crate::machine::{Machine, View};
 use crate::make_orders::any_run;
@@ -202,7 +202,7 @@ pub fn make_views(seed: u64) -> Vec<u8> {
     let random = &mut generator;
     let n = 1 + (seed % 32) as usize;
     let style = seed % STYLES;
-    let turn = (seed / STYLES % 120) as usize;
+    let turn = (seed / STYLES % 420) as usize;
     let mut records = match style {
         0 => outcome(random, n),
         1 => by_blocks(random, n, true),
@@ -256,13 +256,18 @@ pub fn make_views(seed: u64) -> Vec<u8> {
     let mut file = view_file(n, &records);
     match style {
         17 => file = two_faults(random, n, &records, turn),
-        // The end of the last record is missing.
+        // The last record is cut, by turns in the mark, after it, in the fixed bytes or in the values.
         18 => {
             let last = records
                 .last()
                 .map_or(0, |(p, view)| view_record(*p, view).len());
-            let missing = random.from_to(1, last - 1);
-            file.truncate(file.len() - missing);
+            let left = match turn % 4 {
+                0 => 1,
+                1 => 2,
+                2 => random.from_to(3, 6),
+                _ => random.from_to(7, last - 1),
+            };
+            file.truncate(file.len() - last + left);
         }
         19 => {
             let mut bad = random.bad_header(turn);
@@ -289,7 +294,7 @@ fn two_faults(random: &mut Random, n: usize, records: &Records, turn: usize) -> 
     let mut records = records.clone();
     let k = random.below(records.len());
     let (mut p, mut view) = records[k].clone();
-    let kind = turn % 6;
+    let kind = turn % 7;
     // 14, or 15 while the first view stands.
     if [0, 1, 2].contains(&kind) {
         p = bad_process(random, n);
@@ -301,11 +306,11 @@ fn two_faults(random: &mut Random, n: usize, records: &Records, turn: usize) -> 
     if kind == 5 {
         records.remove(k);
     }
-    // 11, in the fixed bytes or in the values.
+    // 24, in the fixed bytes or in the values.
     let record = view_record(p, &view);
     let length = match kind {
         0 | 3 => record.len(),
-        1 => random.from_to(3, 6),
+        1 | 6 => random.from_to(3, 6),
         _ => random.from_to(7, record.len() - 1),
     };
     let mut file = view_file(n, &records);
@@ -345,7 +350,7 @@ fn size_limit(random: &mut Random, turn: usize, file: &mut Vec<u8>) {
 #[cfg(test)]
 mod tests {
     use super::*;
-    use crate::files::MOST_BYTES;
+    use crate::files::{four, HEADER, MOST_BYTES};
     use crate::views::{check, read_views};
     use std::collections::{BTreeMap, BTreeSet};
 
@@ -378,10 +383,64 @@ mod tests {
             sizes.insert(reading.n);
         }
         println!("view files by number: {verdicts:?}, too long: {too_long}");
-        let all = [0, 8, 9, 10, 11, 12, 14, 15, 16, 20, 21, 22, 23];
+        let all = [0, 8, 9, 10, 11, 12, 14, 15, 16, 20, 21, 22, 23, 24];
         assert_eq!(verdicts.keys().copied().collect::<Vec<_>>(), all);
         assert_eq!(sizes.len(), 33);
         assert!(too_long > 0);
+    }
+
+    /// How much is left of a cut record; the records before it are whole.
+    fn left_of_last(file: &[u8]) -> usize {
+        if file.len() < HEADER {
+            return file.len();
+        }
+        let mut left = &file[HEADER..];
+        while left.len() >= 7 {
+            let length = 7 + 4 * four(&left[3..]).count_ones() as usize;
+            if left.len() < length {
+                break;
+            }
+            left = &left[length..];
+        }
+        left.len()
+    }
+
+    /// 216 seeds in a row have a cut in each part of the header and of a view.
+    #[test]
+    fn cuts() {
+        for first in [0, 216, 432, 648] {
+            // The number, whether it is the header that is cut, and where the missing bytes begin.
+            let mut cuts = BTreeSet::new();
+            for seed in first..first + 216 {
+                let file = make_views(seed);
+                let reading = read_views(&file);
+                if file.len() <= MOST_BYTES && [11, 24].contains(&reading.number) {
+                    let left = left_of_last(&file);
+                    let place = if left == 1 {
+                        file.len() - 1
+                    } else {
+                        file.len()
+                    };
+                    assert_eq!(reading.place, place, "seed {seed}");
+                    let part = match left {
+                        1 => "in the mark",
+                        2 => "after the mark",
+                        3..=6 => "in the fixed bytes",
+                        _ => "in the values",
+                    };
+                    cuts.insert((reading.number, file.len() < HEADER, part));
+                }
+            }
+            let every_cut = BTreeSet::from([
+                (11, false, "in the mark"),
+                (11, true, "in the mark"),
+                (24, false, "after the mark"),
+                (24, false, "in the fixed bytes"),
+                (24, false, "in the values"),
+                (24, true, "after the mark"),
+            ]);
+            assert_eq!(cuts, every_cut);
+        }
     }
 
     /// Each style gives the number that it is for, wherever n allows it.
@@ -401,14 +460,15 @@ mod tests {
                 14 => Some(14),
                 15 => Some(15),
                 16 if n < 32 => Some(16),
-                17 => match seed / STYLES % 6 {
+                17 => match seed / STYLES % 7 {
                     0 | 2 => Some(14),
-                    1 => Some(11),
+                    1 | 6 => Some(24),
                     3 | 4 => Some(15),
                     _ if n < 32 => Some(16),
-                    _ => Some(11),
+                    _ => Some(24),
                 },
-                18 => Some(11),
+                18 if seed / STYLES % 4 == 0 => Some(11),
+                18 => Some(24),
                 20 if number != 12 => Some(10),
                 21 => Some(12),
                 _ => None,

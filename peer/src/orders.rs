@@ -1,6 +1,6 @@
 //! Order files: writing them, replaying them over a fresh machine, and what the replay program prints.
 
-use crate::files::{four, read_header, HEADER, MOST_BYTES};
+use crate::files::{four, read_header, refusal_place, HEADER, MOST_BYTES};
 use crate::machine::{Machine, View};
 
 /// The replay program's budget of orders.
@@ -58,13 +58,13 @@ pub fn read_order(file: &[u8], at: usize) -> Result<Order, u32> {
     }
     if mark == b"EN" {
         if left.len() < 7 {
-            return Err(11);
+            return Err(24);
         }
         return Ok(Order::Enter(left[2], four(&left[3..7])));
     }
     if mark == b"ST" || mark == b"CR" {
         if left.len() < 3 {
-            return Err(11);
+            return Err(24);
         }
         return Ok(if mark == b"ST" {
             Order::Step(left[2])
@@ -93,7 +93,7 @@ pub fn replay(file: &[u8], budget: usize) -> Run {
         Err(number) => {
             return Run {
                 number,
-                place: 0,
+                place: refusal_place(file, 0, number),
                 taken: 0,
                 accesses: 0,
                 refused: 0,
@@ -119,6 +119,7 @@ pub fn replay(file: &[u8], budget: usize) -> Run {
             Ok(order) => order,
             Err(number) => {
                 run.number = number;
+                run.place = refusal_place(file, run.place, number);
                 return run;
             }
         };

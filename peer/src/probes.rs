@@ -85,7 +85,8 @@ mod tests {
         assert_eq!(probe_program(&probe), expected.into_bytes());
     }
 
-    /// 216 seeds in a row have 13 and 17, and both files that are read whole and views that are written.
+    /// 216 seeds in a row have 11, 24, 13, also 13 before a cut record, and 17, and both files that are read whole and
+    /// views that are written.
     #[test]
     fn coverage() {
         let mut numbers = BTreeSet::new();
@@ -97,13 +98,20 @@ mod tests {
                 let number: u32 = line.split(' ').nth(1).unwrap().parse().unwrap();
                 numbers.insert((line.split(' ').next().unwrap().to_string(), number));
             }
+            // The fault of the record that a spent budget comes before.
+            let budget = four(&probe) as usize;
+            let next = replay(&probe[6..], budget + 1);
+            if replay(&probe[6..], budget).number == 13 && next.taken == budget {
+                numbers.insert(("before".to_string(), next.number));
+            }
         }
-        for number in [0, 8, 9, 10, 11, 13] {
+        for number in [0, 8, 9, 10, 11, 13, 24] {
             assert!(
                 numbers.contains(&("run".to_string(), number)),
                 "run {number}"
             );
         }
+        assert!(numbers.contains(&("before".to_string(), 24)));
         for number in [0, 17] {
             assert!(
                 numbers.contains(&("views".to_string(), number)),

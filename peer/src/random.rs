@@ -139,10 +139,13 @@ impl Random {
         file.truncate(at);
     }
 
-    /// A file of 0 to 3 bytes, by turns: the begin of a header, letters of marks, or any bytes.
+    /// A file of 0 to 3 bytes, by turns, of the begin of a header, letters of marks, or any bytes; or `MN` alone.
     pub fn tiny(&mut self, n: usize, turn: usize) -> Vec<u8> {
-        let length = turn % 4;
+        let length = turn % 5;
         let header = [b'M', b'N', n as u8];
+        if length == 4 {
+            return header[..2].to_vec();
+        }
         match self.below(3) {
             0 => header[..length].to_vec(),
             1 => (0..length).map(|_| self.pick(b"MNESTCRVW")).collect(),

@@ -1,6 +1,6 @@
 //! View files: the writer, the reader, the checker, and what the verdict program prints.
 
-use crate::files::{four, read_header, HEADER, MOST_BYTES};
+use crate::files::{four, read_header, refusal_place, HEADER, MOST_BYTES};
 use crate::machine::{Machine, Process, View};
 use std::collections::BTreeMap;
 
@@ -70,9 +70,9 @@ pub struct Reading {
 
 /// Reads a view file.
 pub fn read_views(file: &[u8]) -> Reading {
-    let refused = |number, place| Reading {
+    let refused = |number, mark| Reading {
         number,
-        place,
+        place: refusal_place(file, mark, number),
         n: 0,
         views: Views::new(),
     };
@@ -111,7 +111,7 @@ fn read_view(left: &[u8], n: usize, before: &Views) -> Result<(usize, View, usiz
         return Err(10);
     }
     if left.len() < 2 + 5 {
-        return Err(11);
+        return Err(24);
     }
     let p = left[2] as usize;
     let names = named(four(&left[3..7]));
@@ -126,7 +126,7 @@ fn read_view(left: &[u8], n: usize, before: &Views) -> Result<(usize, View, usiz
     }
     let length = 7 + 4 * names.len();
     if left.len() < length {
-        return Err(11);
+        return Err(24);
     }
     let mut view = View::new();
     for (k, &i) in names.iter().enumerate() {

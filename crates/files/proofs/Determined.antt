@@ -12,6 +12,8 @@ use Rattle.files.proofs.view_at.Kinds as view-at-kinds
 use Rattle.files.proofs.view_at.Reads as view-at-reads
 use Rattle.files.proofs.number.Kinds as number-kinds
 use Rattle.files.proofs.number.Reads as number-reads
+use Rattle.files.proofs.place_of.Kinds as place-of-kinds
+use Rattle.files.proofs.place_of.Reads as place-of-reads
 
 pub word-at-determined : Determined 1 word-at-kinds.ps word-at-kinds.r word-at-reads.Post
 word-at-determined κs a x y e e′ = one-value
@@ -30,3 +32,6 @@ view-at-determined κs a x y e e′ = one-value
 
 pub number-determined : Determined 0 number-kinds.ps number-kinds.r number-reads.Post
 number-determined κs a x y e e′ = one-value
+
+pub place-of-determined : Determined 0 place-of-kinds.ps place-of-kinds.r place-of-reads.Post
+place-of-determined κs a x y e e′ = one-value

@@ -6,7 +6,7 @@ use formats::Order;
 use formats::ViewRecord;
 ghost use mathlib.Core.Path.{_≡_};
 ghost use Prim.Native.Nat.{_<_};
-ghost use Rattle.formats.specs.Numbers.{fileNumber};
+ghost use Rattle.formats.specs.Numbers.{fileNumber, placeOf};
 ghost use Rattle.formats.specs.Records.{byteAt, wordAt, isMark, markOf, markAt, fits, headerBy, headerOf, orderBy, orderAt, viewBy, viewAt};
 
 // A byte as a number.
@@ -80,7 +80,7 @@ fn mark_at(s: &[u8], at: usize) -> Mark
     mark_of(byte_at(s, at), byte_at(s, at + 1))
 }
 
-// The first record: 9, 11 and 8, or the number of processes.
+// The first record: 9, 11, 24 and 8, or the number of processes.
 pub fn header_of(s: &[u8]) -> Header
     ensures { λ r. ⌜ r ≡ headerOf (now (s .entry)) ⌝ }
 {
@@ -162,7 +162,7 @@ fn crash_at(s: &[u8], at: usize) -> Order
     }
 }
 
-// The later record of an order file at a place: 11, 12, 10 and 11, or the order.
+// The later record of an order file at a place: 11, 12, 10 and 24, or the order.
 pub fn order_at(s: &[u8], at: usize) -> Order
     ensures { λ r. ⌜ r ≡ orderAt (now (s .entry)) at ⌝ }
 {
@@ -192,7 +192,7 @@ fn view_body(s: &[u8], at: usize) -> ViewRecord
     }
 }
 
-// The later record of a view file at a place: 11, 12, 10 and 11, or the view's process and set.
+// The later record of a view file at a place: 11, 12, 10 and 24, or the view's process and set.
 pub fn view_at(s: &[u8], at: usize) -> ViewRecord
     ensures { λ r. ⌜ r ≡ viewAt (now (s .entry)) at ⌝ }
 {
@@ -205,7 +205,7 @@ pub fn view_at(s: &[u8], at: usize) -> ViewRecord
     }
 }
 
-// Document 01's number for an answer.
+// The number of an answer.
 pub fn number(a: FileAnswer) -> u32
     ensures { λ r. ⌜ r ≡ fileNumber a ⌝ }
 {
@@ -215,11 +215,21 @@ pub fn number(a: FileAnswer) -> u32
         FileAnswer::NotHeader => 9,
         FileAnswer::OtherMark => 10,
         FileAnswer::MarkCut => 11,
-        FileAnswer::BodyCut => 11,
+        FileAnswer::BodyCut => 24,
         FileAnswer::HeaderAgain => 12,
         FileAnswer::BudgetSpent => 13,
         FileAnswer::NoProcess => 14,
         FileAnswer::SecondView => 15,
         FileAnswer::NamesAbove => 16,
+    }
+}
+
+// The place that is answered with it, of a file that ends at `end`: the record's own, and of a body cut off that of the first missing byte.
+pub fn place_of(a: FileAnswer, at: usize, end: usize) -> usize
+    ensures { λ r. ⌜ r ≡ placeOf a at end ⌝ }
+{
+    match a {
+        FileAnswer::BodyCut => end,
+        _ => at,
     }
 }

@@ -7,12 +7,17 @@ use Rattle.text.specs.Parts.{joined}
 use Rattle.formats.specs.ViewFile.{testedAt, valuesRead, readFrom, readOf}
 use Rattle.findings.specs.Findings.{agree, inside, breaks, ofOne, ofPair, findings, checkOf}
 use Rattle.findings.specs.Verdict.{verdictOf}
-use Rattle.findings.specs.Examples.{hold, ExamplesHold, AllThreeFound, NotCompared, P9PassesByNeighbours}
+use Rattle.findings.specs.Examples.{hold, ExamplesHold, P9Cuts, AllThreeFound, NotCompared, P9PassesByNeighbours}
 
 pub examples-hold : ExamplesHold
 unfolding hold verdictOf checkOf findings ofOne ofPair breaks agree inside joined readOf readFrom headerOf viewAt markAt markOf testedAt
     valuesRead has plus first every count within size
 examples-hold = refl
+
+pub p9-cuts : P9Cuts
+unfolding verdictOf checkOf findings ofOne ofPair breaks agree inside joined readOf readFrom headerOf viewAt markAt markOf testedAt
+    valuesRead has plus first every count within size
+p9-cuts = refl
 
 pub all-three-found : AllThreeFound
 unfolding findings ofOne ofPair breaks agree inside joined readOf readFrom headerOf viewAt markAt markOf testedAt

@@ -1,7 +1,7 @@
 -- The verdict of what was read, put together from its parts, and what it promises of a file.
 use Prim.Native.Nat.{ℕ, _≤_, _<_}
 use mathlib.Core.List.{List}
-use mathlib.Core.Logic.{_≢_, _⊎_, inl, inr, ⊎-elim}
+use mathlib.Core.Logic.{_≢_, _↔_, _⊎_, inl, inr, ⊎-elim}
 use mathlib.Core.Bool.{Bool, true, false, cond}
 use mathlib.Core.Path.{_≡_, refl, sym, ap, _∙_}
 use native.Mathlib.Omega.{arith}
@@ -22,8 +22,9 @@ use Rattle.findings.specs.declared.FileVerdict.{FileVerdict}
 use Rattle.findings.specs.Findings.{findingNumber, isFinding, findings, checkOf}
 use Rattle.findings.specs.Verdict.{judged, unread, verdictBy, verdictOf}
 use Rattle.findings.specs.Properties.{Obeys}
-use Rattle.findings.specs.Statements.{RefusedFirst, ReadThenChecked, VerdictNumbers, EveryVerdictNumbered, YesExactly}
+use Rattle.findings.specs.Statements.{RefusedFirst, ReadThenChecked, VerdictNumbers, EveryVerdictNumbered, EveryCutJudged, YesExactly}
 use Rattle.formats.proofs.WholeFile.{read-place}
+use Rattle.formats.proofs.Cuts.{every-cut-exactly}
 use Rattle.findings.proofs.First.{none-first}
 use Rattle.findings.proofs.Accepts.{accepts-exactly}
 use Rattle.findings.proofs.FirstBreak.{real-findings, yes-is-no-finding}
@@ -97,25 +98,29 @@ finding-back Apart = refl
 finding-back Unlike = refl
 finding-back Disagree = refl
 
-finding-number : (k : Finding) → (k ≡ Nothing) ⊎ (20 ≤ findingNumber k)
+finding-number : (k : Finding) → (k ≡ Nothing) ⊎ ((20 ≤ findingNumber k) × (findingNumber k ≤ 23))
 finding-number Nothing = inl refl
-finding-number LacksItself = inr (omega arith)
-finding-number Apart = inr (omega arith)
-finding-number Unlike = inr (omega arith)
-finding-number Disagree = inr (omega arith)
+finding-number LacksItself = inr (omega arith, omega arith)
+finding-number Apart = inr (omega arith, omega arith)
+finding-number Unlike = inr (omega arith, omega arith)
+finding-number Disagree = inr (omega arith, omega arith)
 
-file-number : (a : FileAnswer) → fileNumber a < 20
-file-number Whole = omega arith
-file-number OutOfRange = omega arith
-file-number NotHeader = omega arith
-file-number OtherMark = omega arith
-file-number MarkCut = omega arith
-file-number BodyCut = omega arith
-file-number HeaderAgain = omega arith
-file-number BudgetSpent = omega arith
-file-number NoProcess = omega arith
-file-number SecondView = omega arith
-file-number NamesAbove = omega arith
+file-number : (a : FileAnswer) → (fileNumber a < 20) ⊎ (23 < fileNumber a)
+file-number Whole = inl (omega arith)
+file-number OutOfRange = inl (omega arith)
+file-number NotHeader = inl (omega arith)
+file-number OtherMark = inl (omega arith)
+file-number MarkCut = inl (omega arith)
+file-number BodyCut = inr (omega arith)
+file-number HeaderAgain = inl (omega arith)
+file-number BudgetSpent = inl (omega arith)
+file-number NoProcess = inl (omega arith)
+file-number SecondView = inl (omega arith)
+file-number NamesAbove = inl (omega arith)
+
+-- so none is both
+apart : (x : ℕ) → (x < 20) ⊎ (23 < x) → 20 ≤ x → x ≤ 23 → ⊥
+apart x e l h = ⊎-elim (λ q. omega arith) (λ q. omega arith) e
 
 module _ (s : List ℕ) where
   found : Finding
@@ -138,15 +143,18 @@ module _ (s : List ℕ) where
   finds k n e =
       ⊎-elim
       (λ t. (t, sym (finding-back found) ∙ ap findingOf (sym (of-read t) ∙ e) ∙ finding-back k))
-      (λ t. absurd (⊎-elim (λ z. n z) (λ l. omega (arith, file-number (readOf s .answer), of-refused t)) (finding-number k)))
+      (λ t. absurd (⊎-elim
+      (λ z. n z)
+      (λ l. apart told (file-number (readOf s .answer)) (omega (arith, of-refused t, l .0)) (omega (arith, of-refused t, l .1)))
+      (finding-number k)))
       (either (isWhole (readOf s .answer)))
 
-  refuses : (x : ℕ) → x ≢ 0 → x < 20 → verdictOf s .number ≡ x → told ≡ x
+  refuses : (x : ℕ) → x ≢ 0 → (x < 20) ⊎ (23 < x) → verdictOf s .number ≡ x → told ≡ x
   refuses x n l e =
       ⊎-elim
       (λ t. absurd (⊎-elim
       (λ z. n (sym e ∙ of-read t ∙ ap findingNumber z))
-      (λ h. omega (arith, of-read t))
+      (λ h. apart x l (omega (arith, of-read t, h .0)) (omega (arith, of-read t, h .1)))
       (finding-number found)))
       (λ t. sym (of-refused t) ∙ e)
       (either (isWhole (readOf s .answer)))
@@ -161,3 +169,27 @@ module _ (s : List ℕ) where
 
 pub every-verdict-numbered : EveryVerdictNumbered
 every-verdict-numbered = verdict-numbers
+
+-- a file that the reader refuses with a number, and the place
+module _ (s : List ℕ) (x : ℕ) (n : x ≢ 0) (o : (x < 20) ⊎ (23 < x)) (place : ℕ) where
+  same-place : fileNumber (readOf s .answer) ≡ x → verdictOf s .place ≡ readOf s .place
+  same-place e = ap (λ (v : FileVerdict). v .place) (refused-first s (ne-eqb (fileNumber (readOf s .answer)) 0 (λ z. n (sym e ∙ z))))
+
+  as-read : ((verdictOf s .number ≡ x) × (verdictOf s .place ≡ place)) ↔ ((fileNumber (readOf s .answer) ≡ x) × (readOf s .place ≡ place))
+  as-read =
+      let r = verdict-numbers s .refusal x n o in (
+        λ p. let e = r .0 (p .0) in (e, sym (same-place e) ∙ p .1),
+        λ p. (r .1 (p .0), same-place (p .0) ∙ p .1),
+      )
+
+pub every-cut-judged : EveryCutJudged
+every-cut-judged s =
+    let c = every-cut-exactly s in
+    record {
+      eleven = λ place.
+          let r = as-read s 11 (λ z. omega arith) (inl (omega arith)) place in
+          (λ p. c .eleven place .0 (r .0 p), λ m. r .1 (c .eleven place .1 m));
+      twenty-four = λ place.
+          let r = as-read s 24 (λ z. omega arith) (inr (omega arith)) place in
+          (λ p. c .twenty-four place .0 (r .0 p), λ b. r .1 (c .twenty-four place .1 b));
+    }

@@ -2,19 +2,20 @@
 use Prim.Native.Nat.{ℕ, suc}
 use mathlib.Core.Bool.{Bool, true, _&&_}
 use mathlib.Core.Path.{_≡_}
-use mathlib.Core.List.{List, [], _∷_, _++_}
+use mathlib.Core.List.{List, [], _∷_, _++_, map}
 use lib.Dec.{eqb}
-use lib.ListN.{length}
+use lib.ListN.{length, take}
 use Rattle.formats.specs.declared.Views.{Views}
 use Rattle.formats.specs.Records.{wordBytes}
+use Rattle.text.specs.Ascii.{ascii}
 use Rattle.text.specs.Parts.{joined}
 use Rattle.formats.specs.ViewFile.{readOf}
-use Rattle.formats.specs.Examples.{MN, VW}
+use Rattle.formats.specs.Examples.{MN, VW, headerCuts, recordCuts}
 use Rattle.findings.specs.declared.FileVerdict.{FileVerdict}
 use Rattle.findings.specs.declared.Finding.the-variants.{Nothing, Apart, Unlike, Disagree}
 use Rattle.findings.specs.declared.Found.{Found}
 use Rattle.findings.specs.Findings.{found, ofPair, ofOnes, findings, checkOf}
-use Rattle.findings.specs.Verdict.{verdictOf}
+use Rattle.findings.specs.Verdict.{judged, unread, verdictOf}
 
 pub record Example : Type 0 where
   pub file : List ℕ
@@ -78,9 +79,16 @@ examples =
     ∷ whole (MN 32 ++ VW 31 1073741824 ++ val 1 ++ VW 32 1073741824 ++ val 1) 20 32 0
     -- the file's own numbers first
     ∷ of (p9 ++ 86 ∷ []) 11 (length p9) 0 0
+    ∷ of (p9 ++ ascii "VW") 24 58 0 0
     ∷ of (p10 ++ VW 4 8) 14 (length p10) 0 0
     ∷ of [] 9 0 0 0
     ∷ []
+
+-- Every cut of P9's file, of 56 bytes: its first 0, 1, 2, .. bytes, and last the file.
+abbrev pub P9Cuts : Type 0
+P9Cuts =
+    joined 0 57 (λ k. verdictOf (take k p9) ∷ [])
+    ≡ map (λ c. unread (c .number) (c .place)) (headerCuts ++ recordCuts 3 15 ++ recordCuts 18 23 ++ recordCuts 41 15) ++ judged 56 (found Apart 1 3) ∷ []
 
 abbrev agrees : FileVerdict → Example → Bool
 agrees r e = eqb (r .number) (e .number) && eqb (r .place) (e .place) && eqb (r .i) (e .i) && eqb (r .j) (e .j)

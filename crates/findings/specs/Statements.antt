@@ -2,12 +2,13 @@
 use Prim.Native.Nat.{ℕ, _<_}
 use mathlib.Core.Bool.{true, false}
 use mathlib.Core.Path.{_≡_}
-use mathlib.Core.Logic.{_↔_, _≢_}
+use mathlib.Core.Logic.{_⊎_, _↔_, _≢_}
 use mathlib.Core.List.{List}
 use lib.ListN.{length}
 use Rattle.formats.specs.declared.Views.{Views}
 use Rattle.formats.specs.Numbers.{fileNumber, isWhole}
 use Rattle.formats.specs.Views.{noneOf}
+use Rattle.formats.specs.Cuts.{EndsInMark, EndsInBody}
 use Rattle.formats.specs.ViewFile.{readOf}
 use Rattle.findings.specs.declared.Finding.{Finding}
 use Rattle.findings.specs.declared.Finding.the-variants.{Nothing}
@@ -38,14 +39,22 @@ RefusedFirst = (s : List ℕ) → isWhole (readOf s .answer) ≡ false → verdi
 abbrev pub ReadThenChecked : Type 0
 ReadThenChecked = (s : List ℕ) → isWhole (readOf s .answer) ≡ true → verdictOf s ≡ judged (length s) (checkOf (readOf s .views))
 
--- Each number exactly: one of 20 to 23 where the file is read and the checker finds it, and one below where the reader gives it.
+-- Each number exactly: one of 20 to 23 where the file is read and the checker finds it, and another where the reader gives it.
 pub record VerdictNumbers (s : List ℕ) : Type 0 where
   pub finding : (k : Finding) → k ≢ Nothing
       → (verdictOf s .number ≡ findingNumber k) ↔ ((isWhole (readOf s .answer) ≡ true) × (checkOf (readOf s .views) .finding ≡ k))
-  pub refusal : (x : ℕ) → x ≢ 0 → x < 20 → (verdictOf s .number ≡ x) ↔ (fileNumber (readOf s .answer) ≡ x)
+  pub refusal : (x : ℕ) → x ≢ 0 → (x < 20) ⊎ (23 < x) → (verdictOf s .number ≡ x) ↔ (fileNumber (readOf s .answer) ≡ x)
 
 abbrev pub EveryVerdictNumbered : Type 0
 EveryVerdictNumbered = (s : List ℕ) → VerdictNumbers s
+
+-- Of a file that ends in a mark 11, of one that ends in a body 24, with their places (item 2 of document 02).
+pub record CutsJudged (s : List ℕ) : Type 0 where
+  pub eleven : (place : ℕ) → ((verdictOf s .number ≡ 11) × (verdictOf s .place ≡ place)) ↔ EndsInMark s place
+  pub twenty-four : (place : ℕ) → ((verdictOf s .number ≡ 24) × (verdictOf s .place ≡ place)) ↔ (EndsInBody s × (place ≡ length s))
+
+abbrev pub EveryCutJudged : Type 0
+EveryCutJudged = (s : List ℕ) → CutsJudged s
 
 -- 0 exactly for a file that is read and whose views obey the three properties
 abbrev pub YesExactly : Type 0

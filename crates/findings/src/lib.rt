@@ -16,7 +16,7 @@ pub struct Found {
     pub j: u32,
 }
 
-// The verdict of a file, in document 01's numbers.
+// The verdict of a file.
 pub struct FileVerdict {
     pub number: u32,
     pub place: usize,

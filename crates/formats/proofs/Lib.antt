@@ -8,6 +8,8 @@ pub mod Table
 pub mod Walked
 pub mod Ranges
 pub mod WholeFile
+pub mod Cuts
+pub mod Shortened
 pub mod Bytes
 pub mod Typed
 pub mod RoundTrip

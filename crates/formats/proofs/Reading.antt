@@ -1,4 +1,4 @@
--- What a header and a record that are read have passed: the tests of document 01, "the five fixed bytes (11), 14, 15, 16, then the values (11)".
+-- What a header and a record that are read have passed: the five fixed bytes (24), 14, 15, 16, then the values (24).
 use Prim.Native.Nat.{ℕ, _+_, _*_, _≤_}
 use mathlib.Core.Bool.{Bool, true, false, not, _&&_, cond, and-eq-true-iff}
 use mathlib.Core.Path.{_≡_, refl, sym, subst}

@@ -33,7 +33,7 @@ not-leb a b c e =
     (either (leb a b))
 
 -- Marks.
-mark-bytes : (a b x y : ℕ) → isMark a b x y ≡ true → (x ≡ a) × (y ≡ b)
+pub mark-bytes : (a b x y : ℕ) → isMark a b x y ≡ true → (x ≡ a) × (y ≡ b)
 mark-bytes a b x y e = let t = and-eq-true-iff (eqb x a) (eqb y b) .0 e in (eqb-true x a (t .0), eqb-true y b (t .1))
 
 mark-header : (x y : ℕ) → isMark 77 78 x y ≡ true → markOf x y ≡ Mark.Header
@@ -161,7 +161,7 @@ recordNumber (View p w) = 0
 
 number-chain : (a b c d e f g h : Bool) (p w : ℕ)
     → recordNumber (chain a b c d e f g h (View p w))
-    ≡ firstThat (when 11 a ∷ when 12 b ∷ when 10 c ∷ when 11 d ∷ when 14 e ∷ when 15 f ∷ when 16 g ∷ when 11 h ∷ [])
+    ≡ firstThat (when 11 a ∷ when 12 b ∷ when 10 c ∷ when 24 d ∷ when 14 e ∷ when 15 f ∷ when 16 g ∷ when 24 h ∷ [])
 unfolding chain
 number-chain true b c d e f g h p w = refl
 number-chain false true c d e f g h p w = refl
@@ -187,8 +187,8 @@ record-number s at n own before h e f =
     let g = ltb (length s) (endAt s at) in
     ap recordNumber (tested-at s at n own h)
     ∙ number-chain a b c d (not (leb 1 p && leb p n)) (has own p) (not (within w (first n))) g p w
-    ∙ ap₂ (λ (n : ℕ) (o : Bool). firstThat (when 11 a ∷ when 12 b ∷ when 10 c ∷ when 11 d ∷ when 14 (not (leb 1 p && leb p n)) ∷ when 15 o
-    ∷ when 16 (not (within w (first n))) ∷ when 11 g ∷ [])) e f
+    ∙ ap₂ (λ (n : ℕ) (o : Bool). firstThat (when 11 a ∷ when 12 b ∷ when 10 c ∷ when 24 d ∷ when 14 (not (leb 1 p && leb p n)) ∷ when 15 o
+    ∷ when 16 (not (within w (first n))) ∷ when 24 g ∷ [])) e f
 
 -- a fault has a number
 told-apart : (x y : FileAnswer) → Fault x ≡ Fault y → fileNumber y ≡ 0 → fileNumber x ≡ 0
@@ -260,7 +260,7 @@ headerNumber (Header.Of n) = 0
 headerNumber (Header.Fault a) = fileNumber a
 
 header-chain : (a b c d e : Bool) (n : ℕ)
-    → headerNumber (headerChain a b c d e (Header.Of n)) ≡ firstThat (when 9 a ∷ when 11 b ∷ when 9 c ∷ when 11 d ∷ when 8 e ∷ [])
+    → headerNumber (headerChain a b c d e (Header.Of n)) ≡ firstThat (when 9 a ∷ when 11 b ∷ when 9 c ∷ when 24 d ∷ when 8 e ∷ [])
 unfolding headerChain
 header-chain true b c d e n = refl
 header-chain false true c d e n = refl

@@ -31,7 +31,7 @@ module _ (turns : ℕ) (s : List ℕ) (at : ℕ) (v : Views) (h : at ≤ length 
   pub read-end : testedAt s at (v .n) (v .own) ≡ End → readFrom turns s at v ≡ readWhole s v
   read-end e = turned turns s at v End (turn turns s at v h l) e
 
-  pub read-fault : (a : FileAnswer) → testedAt s at (v .n) (v .own) ≡ Fault a → readFrom turns s at v ≡ refusedAt a at
+  pub read-fault : (a : FileAnswer) → testedAt s at (v .n) (v .own) ≡ Fault a → readFrom turns s at v ≡ refusedAt s a at
   read-fault a e = turned turns s at v (Fault a) (turn turns s at v h l) e
 
   pub read-view : (p w : ℕ) → testedAt s at (v .n) (v .own) ≡ View p w

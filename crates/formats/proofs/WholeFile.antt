@@ -21,8 +21,7 @@ use Rattle.formats.specs.Records.{headerOf}
 use Rattle.formats.specs.Views.{noneOf}
 use Rattle.formats.specs.Range.{InRange}
 use Rattle.formats.specs.ViewFile.{testedAt, withView, refusedAt, readWhole, readNext, readFrom, readBy, readOf}
-use Rattle.sets.specs.Lines.{firstThat}
-use Rattle.formats.specs.Table.{recordLines, Reached, Refusal, RefusedExactly, ReadExactly}
+use Rattle.formats.specs.Table.{Refusal, placeGiven, RefusedExactly, ReadExactly}
 use Rattle.formats.specs.Promises.{ReadInRange, ReadPlace, RefusedGivesNone}
 use Rattle.formats.proofs.Reading.{passed, opened}
 use Rattle.formats.proofs.Turns.{read-end, read-fault, read-view}
@@ -50,7 +49,7 @@ comes {s} (more {at = at} {v = v} {p = p} {w = w} r e) =
 data Ends (s : List ℕ) (r : ViewsRead) : Type 0 where
   whole : (places : List ℕ) (v : Views) → Walked s (length s) places v → r ≡ readWhole s v → Ends s r
   refused : (a : FileAnswer) (at : ℕ) (before : List ℕ) (v : Views) → Walked s at before v → at < length s
-      → testedAt s at (v .n) (v .own) ≡ Fault a → r ≡ refusedAt a at → Ends s r
+      → testedAt s at (v .n) (v .own) ≡ Fault a → r ≡ refusedAt s a at → Ends s r
 
 ends-by : (s : List ℕ) (at : ℕ) (before : List ℕ) (v : Views) → Walked s at before v → at ≤ length s → (next : ℕ → Views → ViewsRead)
     → ((p w : ℕ) → testedAt s at (v .n) (v .own) ≡ View p w → Ends s (next (at + (7 + 4 * size w)) (withView s at v p w)))
@@ -79,7 +78,7 @@ ends (suc k) s at before v r l h =
 
 -- a file's header, or where its reading ends
 data FileEnds (s : List ℕ) : Type 0 where
-  header : (a : FileAnswer) → headerOf s ≡ Header.Fault a → readOf s ≡ refusedAt a 0 → FileEnds s
+  header : (a : FileAnswer) → headerOf s ≡ Header.Fault a → readOf s ≡ refusedAt s a 0 → FileEnds s
   records : Ends s (readOf s) → FileEnds s
 
 file-by : (s : List ℕ) (x : Header) → headerOf s ≡ x → FileEnds s
@@ -92,7 +91,7 @@ file-ends : (s : List ℕ) → FileEnds s
 file-ends s = file-by s (headerOf s) refl
 
 -- a refusal is no whole reading
-never-whole : (s : List ℕ) (a : FileAnswer) (at : ℕ) (v : Views) → fileNumber a ≢ 0 → readOf s ≡ refusedAt a at → readOf s ≡ readWhole s v → ⊥
+never-whole : (s : List ℕ) (a : FileAnswer) (at : ℕ) (v : Views) → fileNumber a ≢ 0 → readOf s ≡ refusedAt s a at → readOf s ≡ readWhole s v → ⊥
 never-whole s a at v n e f = n (ap (λ (r : ViewsRead). fileNumber (r .answer)) (sym e ∙ f))
 
 read-whole : (s : List ℕ) (v : Views) → readOf s ≡ readWhole s v → FileEnds s → (places : List ℕ) × Walked s (length s) places v
@@ -100,7 +99,7 @@ read-whole s v e (header a h q) = absurd (never-whole s a 0 v (header-refused s 
 read-whole s v e (records (whole places u r q)) = (places, subst (Walked s (length s) places) (ap (λ (x : ViewsRead). x .views) (sym q ∙ e)) r)
 read-whole s v e (records (refused a at before u r l t q)) = absurd (never-whole s a at v (record-refused s at (u .n) (u .own) a l t) q e)
 
-walked-read : {s places : List ℕ} {v : Views} → Walked s (length s) places v → readOf s ≡ readWhole s v
+pub walked-read : {s places : List ℕ} {v : Views} → Walked s (length s) places v → readOf s ≡ readWhole s v
 walked-read {s} {places} {v} r =
     let c = comes r in
     c .same ∙ read-end (c .turns) s (length s) v (c .inside) (c .enough) (at-end s (length s) (v .n) (v .own) (omega arith))
@@ -112,31 +111,31 @@ read-exactly s v = (
       walked-read (w .1) ∙ ap (readWhole s) (carried-one s (p .0) (w .0) v (walked-carried (w .1)) (p .2)),
 )
 
-refusal : (s : List ℕ) (k at : ℕ) → k ≢ 0 → fileNumber (readOf s .answer) ≡ k → readOf s .place ≡ at → FileEnds s → Refusal s k at
-refusal s k at n e p (header a h q) =
-    inl (
-      sym p ∙ ap (λ (x : ViewsRead). x .place) q,
-      sym (header-number s) ∙ ap headerNumber h ∙ sym (ap (λ (x : ViewsRead). fileNumber (x .answer)) q) ∙ e,
-    )
-refusal s k at n e p (records (whole places v r q)) = absurd (n (sym e ∙ ap (λ (x : ViewsRead). fileNumber (x .answer)) q))
-refusal s k at n e p (records (refused a b before v r l t q)) =
-    let place : b ≡ at = sym (ap (λ (x : ViewsRead). x .place) q) ∙ p in
-    let number : firstThat (recordLines s b before) ≡ k
-    = sym (walked-number r l) ∙ ap recordNumber t ∙ sym (ap (λ (x : ViewsRead). fileNumber (x .answer)) q) ∙ e in
-    inr (
-      before,
-      subst (λ (y : ℕ). Reached s y before) place (walked-reached r),
-      subst (λ (y : ℕ). y < length s) place l,
-      subst (λ (y : ℕ). firstThat (recordLines s y before) ≡ k) place number,
-    )
+-- the place of a refusal, by its number
+refused-place : (s : List ℕ) (a : FileAnswer) (k at : ℕ) → readOf s ≡ refusedAt s a at → fileNumber a ≡ k → readOf s .place ≡ placeGiven s k at
+refused-place s a k at q e = ap (λ (x : ViewsRead). x .place) q ∙ ap (λ (x : ℕ). placeGiven s x at) e
 
--- the answer and the place of a refusal
+-- number k applies at a record, and the place answered with it
+Refused : List ℕ → ℕ → ℕ → Type 0
+Refused s k place = (at : ℕ) × Refusal s k at × (place ≡ placeGiven s k at)
+
+refusal : (s : List ℕ) (k place : ℕ) → k ≢ 0 → fileNumber (readOf s .answer) ≡ k → readOf s .place ≡ place → FileEnds s → Refused s k place
+unfolding Refused
+refusal s k place n e p (header a h q) =
+    let number : fileNumber a ≡ k = sym (ap (λ (x : ViewsRead). fileNumber (x .answer)) q) ∙ e in
+    (0, inl (refl, sym (header-number s) ∙ ap headerNumber h ∙ number), sym p ∙ refused-place s a k 0 q number)
+refusal s k place n e p (records (whole places v r q)) = absurd (n (sym e ∙ ap (λ (x : ViewsRead). fileNumber (x .answer)) q))
+refusal s k place n e p (records (refused a at before v r l t q)) =
+    let number : fileNumber a ≡ k = sym (ap (λ (x : ViewsRead). fileNumber (x .answer)) q) ∙ e in
+    (at, inr (before, walked-reached r, l, sym (walked-number r l) ∙ ap recordNumber t ∙ number), sym p ∙ refused-place s a k at q number)
+
+-- the other way
 Answers : List ℕ → ℕ → ℕ → Type 0
-Answers s k at = (fileNumber (readOf s .answer) ≡ k) × (readOf s .place ≡ at)
+Answers s k at = (fileNumber (readOf s .answer) ≡ k) × (readOf s .place ≡ placeGiven s k at)
 
-answers : (s : List ℕ) (a : FileAnswer) (k at : ℕ) → readOf s ≡ refusedAt a at → fileNumber a ≡ k → Answers s k at
+answers : (s : List ℕ) (a : FileAnswer) (k at : ℕ) → readOf s ≡ refusedAt s a at → fileNumber a ≡ k → Answers s k at
 unfolding Answers
-answers s a k at q e = (ap (λ (x : ViewsRead). fileNumber (x .answer)) q ∙ e, ap (λ (x : ViewsRead). x .place) q)
+answers s a k at q e = (ap (λ (x : ViewsRead). fileNumber (x .answer)) q ∙ e, refused-place s a k at q e)
 
 header-answers : (s : List ℕ) (k : ℕ) → k ≢ 0 → (x : Header) → headerOf s ≡ x → headerNumber x ≡ k → Answers s k 0
 unfolding readOf
@@ -160,8 +159,11 @@ refused-at s k at n =
     record-answers s k at (p .0) v n (w .1) (testedAt s at (v .n) (v .own)) refl (walked-number (w .1) (p .2) ∙ p .3))
 
 pub refused-exactly : RefusedExactly
-unfolding Answers
-refused-exactly s k at n = (λ p. refusal s k at n (p .0) (p .1) (file-ends s), refused-at s k at n)
+unfolding Refused Answers
+refused-exactly s k place n = (
+  λ p. refusal s k place n (p .0) (p .1) (file-ends s),
+  λ p. let a = refused-at s k (p .0) n (p .1) in (a .0, a .1 ∙ sym (p .2)),
+)
 
 -- an answer that is accepted is no refusal, and the other way round
 zero-if : (a : FileAnswer) → isWhole a ≡ true → fileNumber a ≡ 0

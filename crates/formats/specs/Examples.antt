@@ -1,12 +1,13 @@
--- View files on both sides of each of document 01's numbers 8 to 12 and 14 to 16: bytes, number and place. One file byte for byte. And the records
--- of order files.
-use Prim.Native.Nat.{ℕ}
+-- View files on both sides of each of the numbers 8 to 12, 14 to 16 and 24: bytes, number and place. One file byte for byte. What the cuts of a file
+-- answer. And the records of order files.
+use Prim.Native.Nat.{ℕ, _+_, _-_}
 use mathlib.Core.Bool.{Bool, true, _&&_}
 use mathlib.Core.Path.{_≡_}
 use mathlib.Core.List.{List, [], _∷_, _++_}
 use lib.Dec.{eqb}
 use lib.ListN.{replicate}
 use Rattle.text.specs.Ascii.{ascii}
+use Rattle.text.specs.Parts.{joined}
 use Rattle.formats.specs.declared.FileAnswer.the-variants.{Whole, OtherMark, MarkCut, BodyCut, HeaderAgain, SecondView}
 use Rattle.formats.specs.declared.Order.{Order}
 use Rattle.formats.specs.declared.Views.{Views}
@@ -48,7 +49,7 @@ examples =
     ∷ of (ascii "ST") 9 0
     ∷ of (ascii "CR") 9 0
     ∷ of (ascii "VW") 9 0
-    ∷ of (ascii "MN") 11 0
+    ∷ of (ascii "MN") 24 2
     ∷ of (MN 0) 8 0
     ∷ of (MN 33) 8 0
     ∷ of (MN 255) 8 0
@@ -62,11 +63,11 @@ examples =
     ∷ of (two ++ ascii "ST") 10 3
     ∷ of (two ++ ascii "CR") 10 3
     ∷ of (two ++ ascii "VM") 10 3
-    ∷ of (two ++ ascii "VW") 11 3
+    ∷ of (two ++ ascii "VW") 24 5
     -- the fixed bytes cut, before 14 and before 15
-    ∷ of (two ++ ascii "VW" ++ 3 ∷ []) 11 3
-    ∷ of (two ++ ascii "VW" ++ 0 ∷ 0 ∷ 0 ∷ 0 ∷ []) 11 3
-    ∷ of (two ++ both ++ ascii "VW" ++ 2 ∷ []) 11 18
+    ∷ of (two ++ ascii "VW" ++ 3 ∷ []) 24 6
+    ∷ of (two ++ ascii "VW" ++ 0 ∷ 0 ∷ 0 ∷ 0 ∷ []) 24 9
+    ∷ of (two ++ both ++ ascii "VW" ++ 2 ∷ []) 24 21
     -- 14, before 16 and before cut values; no process has both 14 and 15
     ∷ of (two ++ VW 0 0) 14 3
     ∷ of (two ++ VW 3 0) 14 3
@@ -88,9 +89,9 @@ examples =
     ∷ of (two ++ both ++ VW 1 2147483648 ++ wordBytes 5) 16 18
     ∷ of (two ++ both ++ VW 1 4) 16 18
     -- the values cut, by one byte, by one value, by all
-    ∷ of (two ++ VW 2 3 ++ wordBytes 5 ++ 6 ∷ 0 ∷ 0 ∷ []) 11 3
-    ∷ of (two ++ VW 2 3 ++ wordBytes 5) 11 3
-    ∷ of (two ++ both ++ VW 1 1) 11 18
+    ∷ of (two ++ VW 2 3 ++ wordBytes 5 ++ 6 ∷ 0 ∷ 0 ∷ []) 24 17
+    ∷ of (two ++ VW 2 3 ++ wordBytes 5) 24 14
+    ∷ of (two ++ both ++ VW 1 1) 24 25
     ∷ of (two ++ both ++ VW 1 1 ++ wordBytes 7 ++ ascii "V") 11 29
     ∷ []
 
@@ -145,6 +146,21 @@ pub record ByteForByte : Type 0 where
   pub written : fileOf carried ≡ bytes
   -- past the end of a file there are zeros
   pub past : wordAt bytes 48 ≡ 0
+
+-- What a file answers that was cut: number and place. The cuts of the header,
+pub record Cut : Type 0 where
+  pub number : ℕ
+  pub place : ℕ
+
+abbrev pub cut : ℕ → ℕ → Cut
+cut k at = record { number = k; place = at }
+
+abbrev pub headerCuts : List Cut
+headerCuts = cut 9 0 ∷ cut 11 0 ∷ cut 24 2 ∷ []
+
+-- and those of a record of some bytes that stands at a place: before it, after one byte of its mark, after its mark, and so on to its last byte but one.
+abbrev pub recordCuts : ℕ → ℕ → List Cut
+recordCuts at bytes = cut 0 at ∷ cut 11 at ∷ joined (at + 2) (bytes - 2) (λ k. cut 24 k ∷ [])
 
 -- Records of an order file after its header, on both sides of 10, 11 and 12; the value's four bytes differ.
 pub record OrdersRead : Type 0 where

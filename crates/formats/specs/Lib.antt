@@ -5,5 +5,6 @@ pub mod Views
 pub mod ViewFile
 pub mod Range
 pub mod Table
+pub mod Cuts
 pub mod Promises
 pub mod Examples

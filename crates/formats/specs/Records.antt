@@ -45,8 +45,8 @@ markAt s at = cond (leb (length s) at) Mark.End (cond (eqb (length s) (at + 1)) 
 abbrev pub fits : List ℕ → ℕ → ℕ → Bool
 fits s at body = leb (at + 2 + body) (length s)
 
--- "`MN`, n (1 byte): first record of both kinds." "One byte left is 11; then the mark (9 in first place ..); then the body's length (11);
--- then 8 for the header."
+-- "`MN`, n (1 byte): first record of both kinds." One byte left is 11; then the mark (9 in first place); then the body's length (24, item 2 of document
+-- 02); then 8 for the header.
 abbrev pub headerBy : List ℕ → Mark → Header
 headerBy s Mark.End = Header.Fault NotHeader
 headerBy s Mark.Cut = Header.Fault MarkCut
@@ -61,7 +61,7 @@ headerBy s Mark.Other = Header.Fault NotHeader
 unfoldable pub headerOf : List ℕ → Header
 headerOf s = headerBy s (markAt s 0)
 
--- A later record: "one byte left is 11; then the mark (.. else 12, 10); then the body's length (11)."
+-- A later record: one byte left is 11; then the mark (12, 10); then the body's length (24).
 -- Order file: `EN`, process (1), value (4). `ST`, process (1). `CR`, process (1).
 abbrev pub orderBy : List ℕ → ℕ → Mark → Order
 orderBy s at Mark.End = Order.End

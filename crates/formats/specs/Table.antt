@@ -1,7 +1,7 @@
--- Document 01's numbers 8 to 12 and 14 to 16 of a view file, and what is read of it, over its bytes and places alone: no definition of reading is
--- cited. When each number applies at a record, in the order in which they are looked for; "the place is the offset of the record's mark."
+-- The numbers 8 to 12, 14 to 16 and 24 of a view file, and what is read of it, over its bytes and places alone: no definition of reading is
+-- cited. When each number applies at a record, in the order in which they are looked for.
 use Prim.Native.Nat.{ℕ, _+_, _-_, _*_, _^_, _≤_, _<_}
-use mathlib.Core.Bool.{Bool, true, false, not, _&&_, _||_}
+use mathlib.Core.Bool.{Bool, true, false, not, _&&_, _||_, cond}
 use mathlib.Core.Path.{_≡_}
 use mathlib.Core.Logic.{_⊎_, _↔_, _≢_}
 use mathlib.Core.List.{List, [], _∷_, List·Memᴰ}
@@ -22,7 +22,7 @@ headerLines s =
     when 9 (eqb (length s) 0)
     ∷ when 11 (eqb (length s) 1)
     ∷ when 9 (not (spells "MN" (byteAt s 0) (byteAt s 1)))
-    ∷ when 11 (ltb (length s) 3)
+    ∷ when 24 (ltb (length s) 3)
     ∷ when 8 (not (leb 1 (byteAt s 2) && leb (byteAt s 2) 32))
     ∷ []
 
@@ -51,11 +51,11 @@ recordLines s at before =
     when 11 (eqb (length s) (at + 1))
     ∷ when 12 (spells "MN" (byteAt s at) (byteAt s (at + 1)))
     ∷ when 10 (not (spells "VW" (byteAt s at) (byteAt s (at + 1))))
-    ∷ when 11 (ltb (length s) (at + 7))
+    ∷ when 24 (ltb (length s) (at + 7))
     ∷ when 14 (not (leb 1 (processAt s at) && leb (processAt s at) (byteAt s 2)))
     ∷ when 15 (viewed s (processAt s at) before)
     ∷ when 16 (not (within (setAt s at) (first (byteAt s 2))))
-    ∷ when 11 (ltb (length s) (endAt s at))
+    ∷ when 24 (ltb (length s) (endAt s at))
     ∷ []
 
 -- the places that reading comes to, each with those of the records before it, the last of these first
@@ -64,15 +64,20 @@ pub data Reached (s : List ℕ) : ℕ → List ℕ → Type 0 where
   more : {at : ℕ} {before : List ℕ} → Reached s at before → at < length s → firstThat (recordLines s at before) ≡ 0
       → Reached s (endAt s at) (at ∷ before)
 
--- number k applies at a place, and is the first that does
+-- number k applies at the record that stands at a place, and is the first that does
 abbrev pub Refusal : List ℕ → ℕ → ℕ → Type 0
 Refusal s k at =
     ((at ≡ 0) × (firstThat (headerLines s) ≡ k))
     ⊎ ((before : List ℕ) × Reached s at before × (at < length s) × (firstThat (recordLines s at before) ≡ k))
 
--- each number is given, with its place, exactly when it applies there
+-- "The place is the offset of the record's mark"; of 24 it is "the offset of the first missing byte, which is the file's length".
+abbrev pub placeGiven : List ℕ → ℕ → ℕ → ℕ
+placeGiven s k at = cond (eqb k 24) (length s) at
+
+-- each number is given, with its place, exactly when it applies at a record
 abbrev pub RefusedExactly : Type 0
-RefusedExactly = (s : List ℕ) (k at : ℕ) → k ≢ 0 → ((fileNumber (readOf s .answer) ≡ k) × (readOf s .place ≡ at)) ↔ Refusal s k at
+RefusedExactly = (s : List ℕ) (k place : ℕ) → k ≢ 0
+    → ((fileNumber (readOf s .answer) ≡ k) × (readOf s .place ≡ place)) ↔ ((at : ℕ) × Refusal s k at × (place ≡ placeGiven s k at))
 
 -- The views that the records at these places carry.
 pub record Carried (s places : List ℕ) (v : Views) : Type 0 where

@@ -12,6 +12,7 @@ use Rattle.formats.specs.declared.Header.{Header}
 use Rattle.formats.specs.declared.ViewRecord.{ViewRecord}
 use Rattle.formats.specs.declared.Views.{Views}
 use Rattle.formats.specs.declared.ViewsRead.{ViewsRead}
+use Rattle.formats.specs.Numbers.{placeOf}
 use Rattle.formats.specs.Records.{wordAt, wordBytes, fits, headerOf, viewAt}
 use Rattle.formats.specs.Views.{owns, seenBy, valueBy, cell, noneOf}
 use Rattle.text.specs.Ascii.{ascii}
@@ -28,7 +29,7 @@ viewBytes v i = ascii "VW" ++ i ∷ wordBytes (seenBy v i) ++ joined 1 32 (value
 unfoldable pub fileOf : Views → List ℕ
 fileOf v = ascii "MN" ++ v .n ∷ joined 1 32 (λ i. cond (owns v i) (viewBytes v i) [])
 
--- The views. "For `VW`: the five fixed bytes (11), 14, 15, 16, then the values (11)."
+-- The views. For `VW`: the five fixed bytes (24), 14, 15, 16, then the values (24).
 abbrev pub valuesFit : List ℕ → ℕ → ℕ → Bool
 valuesFit s at w = fits s at (5 + 4 * size w)
 
@@ -60,9 +61,9 @@ abbrev pub withView : List ℕ → ℕ → Views → ℕ → ℕ → Views
 withView s at v p w =
     record { n = v .n; own = plus (v .own) p; seen = set (v .seen) (p - 1) w; values = valuesRead s (at + 7) p w 32 (v .values) }
 
--- "The place is the offset of the record's mark, or the file's length when all was read." "A refused file gives n = 0 and no views."
-abbrev pub refusedAt : FileAnswer → ℕ → ViewsRead
-refusedAt a at = record { answer = a; place = at; views = noneOf 0 }
+-- Refused at the record that stands at a place: "a refused file gives n = 0 and no views."
+abbrev pub refusedAt : List ℕ → FileAnswer → ℕ → ViewsRead
+refusedAt s a at = record { answer = a; place = placeOf a at (length s); views = noneOf 0 }
 
 abbrev pub readWhole : List ℕ → Views → ViewsRead
 readWhole s v = record { answer = Whole; place = length s; views = v }
@@ -70,18 +71,18 @@ readWhole s v = record { answer = Whole; place = length s; views = v }
 -- what follows the record at a place
 abbrev pub readNext : List ℕ → ℕ → Views → ViewRecord → (ℕ → Views → ViewsRead) → ViewsRead
 readNext s at v ViewRecord.End next = readWhole s v
-readNext s at v (ViewRecord.Fault a) next = refusedAt a at
+readNext s at v (ViewRecord.Fault a) next = refusedAt s a at
 readNext s at v (ViewRecord.View p w) next = next (at + (7 + 4 * size w)) (withView s at v p w)
 
 -- The records from a place on, `turns` of them at most. A record has seven bytes at least, so the file's length is enough and no file comes to
 -- its last turn, which refuses: specs/Table says what is read, and what is refused, with no turns.
 unfoldable pub readFrom : ℕ → List ℕ → ℕ → Views → ViewsRead
-readFrom zero s at v = refusedAt BodyCut at
+readFrom zero s at v = refusedAt s BodyCut at
 readFrom (suc turns) s at v = readNext s at v (testedAt s at (v .n) (v .own)) (readFrom turns s)
 
 abbrev pub readBy : List ℕ → Header → ViewsRead
 readBy s (Header.Of n) = readFrom (length s) s 3 (noneOf n)
-readBy s (Header.Fault a) = refusedAt a 0
+readBy s (Header.Fault a) = refusedAt s a 0
 
 unfoldable pub readOf : List ℕ → ViewsRead
 readOf s = readBy s (headerOf s)

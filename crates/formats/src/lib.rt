@@ -1,7 +1,7 @@
 // What both kinds of file hold and what a file call answers (document 01, "Files"). The formats themselves are the definitions in specs/.
 
-// What a file call answers; `fileNumber` of specs/Numbers gives document 01's number for each. A record cut off by the end of the file is 11
-// wherever it breaks off, and the two places are kept apart.
+// What a file call answers; `fileNumber` of specs/Numbers gives the number for each. A record cut off by the end of the file breaks off in its mark, after
+// one byte, or in its body.
 pub enum FileAnswer {
     Whole,
     OutOfRange,

@@ -45,6 +45,8 @@ fn main() {
     show(checker::verdict(
         b"MN\x02VW\x01\x01\x00\x00\x00\x07\x00\x00\x00VW\x02\x03\x00\x00\x00\x07\x00\x00\x00\x09\x00\x00\x00",
     ));
-    // the last value cut off: 11 at the record
+    // a second record cut off after one byte of its mark: 11 at the record
+    show(checker::verdict(b"MN\x02VW\x01\x01\x00\x00\x00\x07\x00\x00\x00V"));
+    // the last value cut off: 24 where the file ends
     show(checker::verdict(b"MN\x02VW\x01\x01\x00\x00\x00\x07\x00\x00"));
 }

@@ -75,13 +75,14 @@ fn fresh(n: u32) -> Machine
     made.machine
 }
 
-// Where the replay ends.
-fn ends(a: FileAnswer, at: usize, counts: Counts, m: Machine) -> Replayed
-    ensures { λ r. ⌜ r ≡ ends a at counts m ⌝ }
+// Where the replay of a file ends.
+fn ends(s: &[u8], a: FileAnswer, at: usize, counts: Counts, m: Machine) -> Replayed
+    ensures { λ r. ⌜ r ≡ ends (now (s .entry)) a at counts m ⌝ }
 {
+    let place = files::place_of(a, at, s.len());
     Replayed {
         answer: a,
-        place: at,
+        place,
         taken: counts.taken,
         accesses: counts.accesses,
         refused: counts.refused,
@@ -92,25 +93,25 @@ fn ends(a: FileAnswer, at: usize, counts: Counts, m: Machine) -> Replayed
 // The orders after the header of a file of n processes. An order that the machine refuses is counted and skipped: the state is as it was.
 fn replay_orders(s: &[u8], n: u32, budget: u32) -> Replayed
     requires { ⌜ (3 ≤ length (now s)) × (1 ≤ n) × (n ≤ 32) ⌝ }
-    ensures { λ r. ⌜ r ≡ replayed n (ordersFrom budget (now (s .entry)) 3) ⌝ }
+    ensures { λ r. ⌜ r ≡ replayed (now (s .entry)) n (ordersFrom budget (now (s .entry)) 3) ⌝ }
 {
     let mut m = fresh(n);
     let mut counts = none();
     let mut at: usize = 3;
     loop {
         if s.len() <= at {
-            return ends(FileAnswer::Whole, s.len(), counts, m);
+            return ends(s, FileAnswer::Whole, s.len(), counts, m);
         }
         let taken = counts.taken;
         if taken == budget {
-            return ends(FileAnswer::BudgetSpent, at, counts, m);
+            return ends(s, FileAnswer::BudgetSpent, at, counts, m);
         }
         match files::order_at(s, at) {
             Order::End => {
-                return ends(FileAnswer::Whole, s.len(), counts, m);
+                return ends(s, FileAnswer::Whole, s.len(), counts, m);
             }
             Order::Fault(a) => {
-                return ends(a, at, counts, m);
+                return ends(s, a, at, counts, m);
             }
             Order::Enter { process, value } => {
                 let called = machine::enter(m, process, value);
@@ -143,7 +144,7 @@ pub fn replay(s: &[u8], budget: u32) -> Replayed
 {
     match files::header_of(s) {
         Header::Of(n) => replay_orders(s, n, budget),
-        Header::Fault(a) => { ends(a, 0, none(), fresh(1)) }
+        Header::Fault(a) => { ends(s, a, 0, none(), fresh(1)) }
     }
 }
 

@@ -2,10 +2,11 @@
 use Prim.Native.Nat.{ℕ, _-_}
 use mathlib.Core.Path.{_≡_}
 use mathlib.Core.List.{List, [], _∷_, _++_}
+use lib.ListN.{take}
 use Rattle.formats.specs.Examples.{MN}
 use Rattle.findings.specs.Examples.{p10}
 use Rattle.replays.specs.Examples.{EN, ST, CR, printedFile}
-use Rattle.text.specs.Ascii.{lines}
+use Rattle.text.specs.Ascii.{ascii, lines}
 use Rattle.text.specs.Parts.{joined}
 use Rattle.output.specs.Lines.{replayText, verdictText}
 
@@ -30,9 +31,12 @@ absentFile = MN 2 ++ EN 2 7
 abbrev pub tenFile : List ℕ
 tenFile = MN 10 ++ joined 1 10 (λ i. EN i (20 - i)) ++ joined 1 10 ST ++ joined 1 10 (λ _. ST 10)
 
--- a step that is refused, then one cut off
+-- a step that is refused, then one cut off after a byte of its mark, and after its mark
 abbrev pub cutFile : List ℕ
 cutFile = MN 1 ++ ST 1 ++ 83 ∷ []
+
+abbrev pub cutLater : List ℕ
+cutLater = MN 1 ++ ST 1 ++ 83 ∷ 84 ∷ []
 
 pub record Texts : Type 0 where
   pub printed-run : replayText printedFile
@@ -49,7 +53,10 @@ pub record Texts : Type 0 where
       ∷ "p 6 running 10 1 -" ∷ "p 7 running 10 1 -" ∷ "p 8 running 10 1 -" ∷ "p 9 running 10 1 -"
       ∷ "p 10 finished 10 11 1:19,2:18,3:17,4:16,5:15,6:14,7:13,8:12,9:11,10:10" ∷ "participants 10" ∷ [])
   pub cut : replayText cutFile ≡ lines ("run 11 6 1 0 1" ∷ "p 1 absent 0 0 -" ∷ "participants 0" ∷ [])
+  pub cut-later : replayText cutLater ≡ lines ("run 24 8 1 0 1" ∷ "p 1 absent 0 0 -" ∷ "participants 0" ∷ [])
+  pub cut-header : replayText (ascii "MN") ≡ lines ("run 24 2 0 0 0" ∷ "p 1 absent 0 0 -" ∷ "participants 0" ∷ [])
   pub refused-header : replayText (MN 33) ≡ lines ("run 8 0 0 0 0" ∷ "p 1 absent 0 0 -" ∷ "participants 0" ∷ [])
   pub unlike-views : verdictText p10 ≡ lines ("verdict 22 37 1 2" ∷ [])
+  pub cut-view : verdictText (take 36 p10) ≡ lines ("verdict 24 36 0 0" ∷ [])
   pub nothing : verdictText [] ≡ lines ("verdict 9 0 0 0" ∷ [])
   pub no-views : verdictText (MN 3) ≡ lines ("verdict 0 3 0 0" ∷ [])

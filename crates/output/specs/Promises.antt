@@ -18,6 +18,7 @@ use Rattle.formats.specs.declared.FileAnswer.{FileAnswer}
 use Rattle.formats.specs.declared.Header.{Header}
 use Rattle.formats.specs.Numbers.{fileNumber}
 use Rattle.formats.specs.Records.{headerOf}
+use Rattle.formats.specs.Table.{placeGiven}
 use Rattle.replays.specs.Replays.{replayOf, callsOf, processesOf}
 use Rattle.text.specs.Ascii.{ascii, lines}
 use Rattle.text.specs.Decimal.{decimal}
@@ -35,10 +36,12 @@ FewOrders = (s : List ℕ) (budget : ℕ) → length s ≤ 65535 → replayOf s 
 abbrev pub NeverThirteen : Type 0
 NeverThirteen = (s rest : List ℕ) → replayText s ≢ ascii "run 13 " ++ rest
 
--- "A refused header prints the process line `p 1 absent 0 0 -`": every one, after the line `run`, its number, and 0 four times.
+-- "A refused header prints the process line `p 1 absent 0 0 -`": every one, after the line `run`, its number, its place, and 0 three times. The place is 0,
+-- or with 24 the file's length.
 abbrev pub RefusedHeaderPrints : Type 0
 RefusedHeaderPrints = (s : List ℕ) (a : FileAnswer) → length s ≤ 65535 → headerOf s ≡ Header.Fault a
-    → replayText s ≡ ascii "run " ++ (decimal (fileNumber a) ++ lines (" 0 0 0 0" ∷ "p 1 absent 0 0 -" ∷ "participants 0" ∷ []))
+    → replayText s ≡ ascii "run " ++ (decimal (fileNumber a) ++ (ascii " " ++ (decimal (placeGiven s (fileNumber a) 0)
+    ++ lines (" 0 0 0" ∷ "p 1 absent 0 0 -" ∷ "participants 0" ∷ []))))
 
 -- "process:value pairs, .. split by commas"
 abbrev pub pairText : Pair → List ℕ

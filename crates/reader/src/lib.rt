@@ -10,7 +10,7 @@ use formats::ViewRecord;
 use formats::Views;
 use formats::ViewsRead;
 
-// A `VW` whose fixed bytes are there: 14, 15, 16, then 11 for its values, or the view's process and set.
+// A `VW` whose fixed bytes are there: 14, 15, 16, then 24 for its values, or the view's process and set.
 fn tested(s: &[u8], at: usize, n: u32, own: u32, p: u32, w: u32) -> ViewRecord
     ensures { λ r. ⌜ r ≡ testedView (now (s .entry)) at n own p w ⌝ }
 {
@@ -57,14 +57,15 @@ fn none_of(n: u32) -> Views
     }
 }
 
-// A refused file gives n = 0 and no views.
-fn refused(a: FileAnswer, at: usize) -> ViewsRead
-    ensures { λ r. ⌜ r ≡ refusedAt a at ⌝ }
+// Refused at the record that stands at a place: n = 0 and no views.
+fn refused(s: &[u8], a: FileAnswer, at: usize) -> ViewsRead
+    ensures { λ r. ⌜ r ≡ refusedAt (now (s .entry)) a at ⌝ }
 {
+    let place = files::place_of(a, at, s.len());
     let views = none_of(0);
     ViewsRead {
         answer: a,
-        place: at,
+        place,
         views,
     }
 }
@@ -123,7 +124,7 @@ fn read_records(s: &[u8], n: u32) -> ViewsRead
                 };
             }
             ViewRecord::Fault(a) => {
-                return refused(a, at);
+                return refused(s, a, at);
             }
             ViewRecord::View { process, set } => {
                 v = with_view(s, at, v, process, set);
@@ -133,12 +134,12 @@ fn read_records(s: &[u8], n: u32) -> ViewsRead
     }
 }
 
-// The view reader: number, place, n and the views of a file, with document 01's numbers 8 to 12 and 14 to 16.
+// The view reader: number, place, n and the views of a file, with the numbers 8 to 12, 14 to 16 and 24.
 pub fn read(s: &[u8]) -> ViewsRead
     ensures { λ r. ⌜ r ≡ readOf (now (s .entry)) ⌝ }
 {
     match files::header_of(s) {
         Header::Of(n) => read_records(s, n),
-        Header::Fault(a) => refused(a, 0),
+        Header::Fault(a) => refused(s, a, 0),
     }
 }

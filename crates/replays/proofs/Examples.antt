@@ -18,7 +18,7 @@ use Rattle.history.specs.Runs.{steps, from, tally, allSteps, refusedCalls, acce
 use Rattle.history.specs.Examples.{printed}
 use Rattle.history.proofs.Examples.{printed-counts}
 use Rattle.formats.specs.declared.FileAnswer.the-variants.{Whole}
-use Rattle.formats.specs.Numbers.{fileNumber}
+use Rattle.formats.specs.Numbers.{fileNumber, placeOf}
 use Rattle.formats.specs.Examples.{MN}
 use Rattle.formats.specs.Records.{markOf, markAt, headerOf, orderAt}
 use Rattle.replays.specs.Replays.{Orders, ordersFrom, replayOf}
@@ -26,7 +26,7 @@ use Rattle.text.specs.Parts.{joined}
 use Rattle.formats.specs.ViewFile.{viewBytes, fileOf}
 use Rattle.replays.specs.OrderFile.{orderBytes}
 use Rattle.replays.specs.Writes.{viewsOf, bytesOf, writeOf, bufferOf}
-use Rattle.replays.specs.Examples.{RunLine, printedFile, Printed, Small, OrdersRefused, HeaderRefused, Spelled, FilesWritten, WriteLine, WriterAnswers}
+use Rattle.replays.specs.Examples.{RunLine, printedFile, Printed, PrintedCuts, Small, OrdersRefused, HeaderRefused, Spelled, FilesWritten, WriteLine, WriterAnswers}
 use Rattle.replays.proofs.Writes.{every-write-numbered}
 use Rattle.world.specs.Calls.{counts, leaves}
 
@@ -44,7 +44,7 @@ unfolding replayOf headerOf markAt markOf
 line-of budget e =
     record {
       number-is = ap (λ (o : Orders). fileNumber (o .answer)) e;
-      place-is = ap (λ (o : Orders). o .place) e;
+      place-is = ap (λ (o : Orders). placeOf (o .answer) (o .place) 47) e;
       taken-is = ap (λ (o : Orders). length (o .calls)) e;
       accesses-is = ap (λ (o : Orders). allSteps 2 (o .calls)) e ∙ printed-counts .accesses;
       refused-is = ap (λ (o : Orders). refusedCalls 2 (o .calls)) e ∙ printed-counts .refused;
@@ -62,12 +62,17 @@ printed-example =
       short-taken = refl;
     }
 
+pub printed-cuts : PrintedCuts
+unfolding joined replayOf headerOf ordersFrom orderAt markAt markOf
+printed-cuts = refl
+
 pub small-examples : Small
 unfolding replayOf headerOf ordersFrom orderAt markAt markOf counts leaves
 small-examples =
     record {
       spent-none = record { number-is = refl; place-is = refl; taken-is = refl; accesses-is = refl; refused-is = refl };
       spent-one = record { number-is = refl; place-is = refl; taken-is = refl; accesses-is = refl; refused-is = refl };
+      spent-cut = record { number-is = refl; place-is = refl; taken-is = refl; accesses-is = refl; refused-is = refl };
       spent-header = record { number-is = refl; place-is = refl; taken-is = refl; accesses-is = refl; refused-is = refl };
       empty = record { number-is = refl; place-is = refl; taken-is = refl; accesses-is = refl; refused-is = refl };
       one-byte = record { number-is = refl; place-is = refl; taken-is = refl; accesses-is = refl; refused-is = refl };
@@ -106,6 +111,7 @@ refused-examples =
     record {
       skipped = record { number-is = refl; place-is = refl; taken-is = refl; accesses-is = no-access; refused-is = one-refused };
       then-cut = record { number-is = refl; place-is = refl; taken-is = refl; accesses-is = no-access; refused-is = one-refused };
+      then-cut-later = record { number-is = refl; place-is = refl; taken-is = refl; accesses-is = no-access; refused-is = one-refused };
       then-spent = record { number-is = refl; place-is = refl; taken-is = refl; accesses-is = no-access; refused-is = one-refused };
     }
 

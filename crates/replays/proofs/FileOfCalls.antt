@@ -1,30 +1,27 @@
--- The bytes of a file of calls, and the calls of a file of bytes: up to its place a file has just the bytes that its calls are written with.
+-- The bytes of a file of calls, and the calls of a file of bytes: up to the record where its reading ended a file has just the bytes that its calls are written with.
 use Prim.Native.Nat.{ℕ, zero, suc, _+_, _*_, _/_, _%_, _≤_, _<_}
 use Prim.Native.String.{String}
-use mathlib.Core.Bool.{Bool, true, false, not, _&&_}
+use mathlib.Core.Bool.{true}
 use mathlib.Core.Path.{_≡_, refl, sym, ap, ap₂, _∙_}
 use mathlib.Core.List.{List, [], _∷_, _++_, append-assoc, append-nil}
 use native.Mathlib.Nat.{add-zero}
 use native.Mathlib.Omega.{arith}
-use lib.Dec.{leb, ltb, eqb}
 use lib.ListN.{length, take, drop}
 use lib.Seq.{take-add, drop-cons, take-length}
 use Rattle.history.specs.Runs.{Call, enters, steps, crashes}
-use Rattle.sets.specs.Lines.{when, firstThat}
 use Rattle.text.specs.Ascii.{ascii}
 use Rattle.formats.specs.declared.Header.{Header}
 use Rattle.formats.specs.Records.{byteAt, wordAt, wordBytes, headerOf}
-use Rattle.formats.specs.Table.{headerLines}
 use Rattle.formats.specs.Promises.{Bytes}
-use Rattle.formats.proofs.Reading.{opened}
 use Rattle.formats.proofs.Ranges.{word-below}
+use Rattle.formats.proofs.Shortened.{header-stands}
 use Rattle.formats.proofs.RoundTrip.{bytes-none, bytes-one, bytes-append, bytes-word}
-use Rattle.replays.specs.Replays.{replayOf, callsBy, callsOf}
+use Rattle.replays.specs.Replays.{callsBy, callsOf, stopOf}
 use Rattle.replays.specs.OrderFile.{callBytes, orderBytes, orderFile, FileCall, FileCalls}
 use Rattle.replays.specs.Table.{marked, Holds, start, enter, step, crash}
 use Rattle.replays.specs.Promises.{OrderFileBytes, EveryFileOfCalls, WholeFileOfCalls}
 use Rattle.replays.proofs.Orders.{letter, mark-bytes, enter-long, step-long, crash-long}
-use Rattle.replays.proofs.WholeFile.{header-whole, whole-header, zero-read, whole-place}
+use Rattle.replays.proofs.WholeFile.{header-whole, zero-read, whole-stop}
 use Rattle.replays.proofs.Promises.{every-file-holds}
 
 -- A file of calls is bytes.
@@ -117,21 +114,10 @@ file-more : (s : List ℕ) (at k : ℕ) (cs : List Call) (c : Call) → take at 
 file-more s at k cs c e f =
     f ∙ ap (λ (l : List ℕ). l ++ callBytes c) e ∙ ap (λ (l : List ℕ). ascii "MN" ++ byteAt s 2 ∷ l) (sym (last-call cs c))
 
--- the header
-header-none : (a b c d e : Bool) → firstThat (when 9 a ∷ when 11 b ∷ when 9 (not c) ∷ when 11 d ∷ when 8 e ∷ []) ≡ 0 → c ≡ true
-header-none true b c d e z = absurd (omega arith)
-header-none false true c d e z = absurd (omega arith)
-header-none false false false d e z = absurd (omega arith)
-header-none false false true d e z = refl
-
-header-mark : (s : List ℕ) → firstThat (headerLines s) ≡ 0 → marked s 0 "MN" ≡ true
-header-mark s z =
-    header-none (eqb (length s) 0) (eqb (length s) 1) (marked s 0 "MN") (ltb (length s) 3) (not (leb 1 (byteAt s 2) && leb (byteAt s 2) 32)) z
-
 -- What a place holds are the bytes before it.
 held-bytes : {s : List ℕ} {at : ℕ} {cs : List Call} → Bytes s → Holds s at cs → take at s ≡ orderFile (byteAt s 2) cs
 unfolding orderBytes
-held-bytes {s} b (start z) = let h = whole-header s z in short-record s b 0 "MN" (header-mark s z) (opened s (h .0) (h .1) .long)
+held-bytes {s} b (start z) = let w = header-stands s z in short-record s b 0 "MN" (w .mark) (w .long)
 held-bytes {s} b (enter {at = at} {cs = cs} h r) =
     file-more s at (at + 7) cs (enters (byteAt s (at + 2)) (wordAt s (at + 3))) (held-bytes b h) (enter-record s b at (r .mark) (enter-long s at r))
 held-bytes {s} b (step {at = at} {cs = cs} h r) =
@@ -168,5 +154,5 @@ pub whole-file-of-calls : WholeFileOfCalls
 whole-file-of-calls f budget z =
     let s = f .content in
     let h = zero-read s budget z in
-    let all : take (replayOf s budget .place) s ≡ s = ap (λ (k : ℕ). take k s) (whole-place s budget z) ∙ take-length s in
+    let all : take (stopOf s budget) s ≡ s = ap (λ (k : ℕ). take k s) (whole-stop s budget z) ∙ take-length s in
     sym all ∙ every-file-of-calls f budget (header-whole s (h .0) (h .1)) .bytes

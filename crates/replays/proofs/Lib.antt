@@ -4,6 +4,8 @@ pub mod Views
 pub mod Writes
 pub mod Orders
 pub mod WholeFile
+pub mod Cuts
+pub mod Shortened
 pub mod OrderFile
 pub mod FileOfCalls
 pub mod Promises

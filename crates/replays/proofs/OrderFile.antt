@@ -77,4 +77,4 @@ pub every-list-replays : EveryListReplays
 unfolding replayOf
 every-list-replays n low high cs w budget h =
     ap (replayBy (orderFile n cs) budget) (header-read n (orderBytes cs) low high)
-    ∙ ap (replayed n) (read-back cs (77 ∷ 78 ∷ n ∷ []) budget w h)
+    ∙ ap (replayed (orderFile n cs) n) (read-back cs (77 ∷ 78 ∷ n ∷ []) budget w h)

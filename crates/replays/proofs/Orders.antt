@@ -18,6 +18,7 @@ use Rattle.formats.specs.Numbers.{fileNumber}
 use Rattle.formats.specs.Records.{byteAt, wordAt, spells, markOf, markAt, fits, orderBy, orderAt}
 use Rattle.formats.proofs.Table.{not-leb}
 use Rattle.sets.specs.Lines.{when, firstThat}
+use Rattle.sets.proofs.Lines.{says}
 use Rattle.replays.specs.Table.{marked, orderLines, Stands}
 
 -- Marks: the two bytes of one, and what they say of another.
@@ -30,7 +31,7 @@ mark-bytes s at t e =
     let b = and-eq-true-iff (eqb (byteAt s at) (letter t 0)) (eqb (byteAt s (at + 1)) (letter t 1)) .0 e in
     (eqb-true (byteAt s at) (letter t 0) (b .0), eqb-true (byteAt s (at + 1)) (letter t 1) (b .1))
 
-mark-other : (s : List ℕ) (at : ℕ) (t u : String) → marked s at t ≡ true → marked s at u ≡ spells u (letter t 0) (letter t 1)
+pub mark-other : (s : List ℕ) (at : ℕ) (t u : String) → marked s at t ≡ true → marked s at u ≡ spells u (letter t 0) (letter t 1)
 mark-other s at t u e =
     let b = mark-bytes s at t e in
     ap₂ (spells u) (b .0) (b .1)
@@ -67,19 +68,11 @@ module _ (s : List ℕ) (at : ℕ) where
   crash-at h e = read-at "CR" 1 (Order.Crash (byteAt s (at + 2))) refl (omega arith) e
 
 -- where no line applies the body is there
-no-line : (a b c d : Bool) → firstThat (when 11 a ∷ when 12 b ∷ when 10 c ∷ when 11 d ∷ []) ≡ 0 → d ≡ false
-no-line true b c d e = absurd (omega arith)
-no-line false true c d e = absurd (omega arith)
-no-line false false true d e = absurd (omega arith)
-no-line false false false true e = absurd (omega arith)
-no-line false false false false e = refl
-
 body-there : (s : List ℕ) (at : ℕ) (t : String) → Stands s at t
     → cond (spells "EN" (letter t 0) (letter t 1)) (ltb (length s) (at + 7)) (ltb (length s) (at + 3)) ≡ false
 body-there s at t r =
     ap (λ (b : Bool). cond b (ltb (length s) (at + 7)) (ltb (length s) (at + 3))) (sym (mark-other s at t "EN" (r .mark)))
-    ∙ no-line (eqb (length s) (at + 1)) (marked s at "MN") (not (marked s at "EN" || marked s at "ST" || marked s at "CR"))
-    (cond (marked s at "EN") (ltb (length s) (at + 7)) (ltb (length s) (at + 3))) (r .whole)
+    ∙ says (orderLines s at) 0 (r .whole) .next .next .next .off
 
 module _ (s : List ℕ) (at : ℕ) where
   pub enter-long : Stands s at "EN" → at + 7 ≤ length s
@@ -151,7 +144,7 @@ Tells en st cr q w (Order.Crash p) = (cr ≡ true) × (q ≡ p)
 -- the number of what the tests lead to, and what it tells
 of-chain : (a b en st cr f g : Bool) (p v : ℕ)
     → (orderNumber (chain a b en st cr (bodied f (Order.Enter p v)) (bodied g (Order.Step p)) (bodied g (Order.Crash p)))
-    ≡ firstThat (when 11 a ∷ when 12 b ∷ when 10 (not (en || st || cr)) ∷ when 11 (cond en (not f) (not g)) ∷ []))
+    ≡ firstThat (when 11 a ∷ when 12 b ∷ when 10 (not (en || st || cr)) ∷ when 24 (cond en (not f) (not g)) ∷ []))
     × Tells en st cr p v (chain a b en st cr (bodied f (Order.Enter p v)) (bodied g (Order.Step p)) (bodied g (Order.Crash p)))
 unfolding chain bodied
 of-chain true b en st cr f g p v = (refl, λ e. omega arith)
@@ -172,7 +165,7 @@ order-number s at h =
     ∙ of-chain (eqb (length s) (at + 1)) (marked s at "MN") (marked s at "EN") (marked s at "ST") (marked s at "CR") (fits s at 5) (fits s at 1)
     (byteAt s (at + 2)) (wordAt s (at + 3)) .0
     ∙ ap₂ (λ (x y : Bool). firstThat (when 11 (eqb (length s) (at + 1)) ∷ when 12 (marked s at "MN")
-    ∷ when 10 (not (marked s at "EN" || marked s at "ST" || marked s at "CR")) ∷ when 11 (cond (marked s at "EN") x y) ∷ [])) long short
+    ∷ when 10 (not (marked s at "EN" || marked s at "ST" || marked s at "CR")) ∷ when 24 (cond (marked s at "EN") x y) ∷ [])) long short
 
 -- an order that is read stands there
 abbrev pub Told : List ℕ → ℕ → Order → Type 0

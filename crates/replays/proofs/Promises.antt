@@ -4,7 +4,7 @@ use mathlib.Core.Path.{_≡_, refl, sym, ap, _∙_, subst}
 use mathlib.Core.Logic.{_≢_}
 use mathlib.Core.List.{List}
 use native.Mathlib.Omega.{arith}
-use Rattle.history.specs.Runs.{Call, runs, from, tally}
+use Rattle.history.specs.Runs.{Call, runs}
 use Rattle.history.proofs.Theorems.{every-state-shaped, never-one-nor-seven, at-most-x-reach-x, three-properties, exact-steps, enough-steps, counts-of-runs}
 use Rattle.sets.specs.Lines.{firstThat}
 use Rattle.formats.specs.declared.FileAnswer.{FileAnswer}
@@ -17,7 +17,7 @@ use Rattle.formats.proofs.Table.{headerNumber, header-number}
 use Rattle.replays.specs.Replays.{noReplay, replayBy, replayOf, callsBy, callsOf, processesBy, processesOf}
 use Rattle.replays.specs.Promises.{Counted, EveryFileCounted, EveryFileHolds, NoneTaken, EveryRefusedHeader}
 use Rattle.replays.specs.Promises.{DemandThree, EveryFileDemandThree, EveryFileAccesses}
-use Rattle.replays.proofs.WholeFile.{header-whole, whole-header, held-calls, few-calls}
+use Rattle.replays.proofs.WholeFile.{header-whole, whole-header, stop-place, held-calls, few-calls}
 use Rattle.world.specs.Calls.{counts, leaves}
 
 counted-by : (s : List ℕ) (budget : ℕ) (h : Header) → headerOf s ≡ h → Counted (processesBy h) (callsBy s budget h) budget (replayBy s budget h)
@@ -32,22 +32,27 @@ every-file-counted s budget = counted-by s budget (headerOf s) refl
 pub every-file-holds : EveryFileHolds
 every-file-holds s budget z =
     let h = whole-header s z in
-    record { processes = ap processesBy (h .1) ∙ opened s (h .0) (h .1) .byte; calls = held-calls s budget (h .0) (h .1) }
+    record {
+      processes = ap processesBy (h .1) ∙ opened s (h .0) (h .1) .byte;
+      calls = held-calls s budget (h .0) (h .1);
+      place = stop-place s budget (h .0) (h .1);
+    }
 
 -- A refused header.
-pub refused-header : (s : List ℕ) (budget : ℕ) (a : FileAnswer) → headerOf s ≡ Header.Fault a → replayOf s budget ≡ noReplay a
+pub refused-header : (s : List ℕ) (budget : ℕ) (a : FileAnswer) → headerOf s ≡ Header.Fault a → replayOf s budget ≡ noReplay s a
 unfolding replayOf
 refused-header s budget a e = ap (replayBy s budget) e
 
-none-taken : (s : List ℕ) (budget : ℕ) → firstThat (headerLines s) ≢ 0 → (h : Header) → headerOf s ≡ h → NoneTaken (headerNumber h) (replayOf s budget)
+none-taken : (s : List ℕ) (budget : ℕ) → firstThat (headerLines s) ≢ 0 → (h : Header) → headerOf s ≡ h
+    → NoneTaken s (headerNumber h) (replayOf s budget)
 none-taken s budget z (Header.Of n) e = absurd (z (header-whole s n e))
 none-taken s budget z (Header.Fault a) e =
-    subst (NoneTaken (fileNumber a)) (sym (refused-header s budget a e))
+    subst (NoneTaken s (fileNumber a)) (sym (refused-header s budget a e))
     (record { number = refl; place = refl; taken = refl; accesses = refl; refused = refl; state = refl })
 
 pub every-refused-header : EveryRefusedHeader
 every-refused-header s budget z =
-    subst (λ (k : ℕ). NoneTaken k (replayOf s budget)) (header-number s) (none-taken s budget z (headerOf s) refl)
+    subst (λ (k : ℕ). NoneTaken s k (replayOf s budget)) (header-number s) (none-taken s budget z (headerOf s) refl)
 
 -- 1 to 32 processes, with a refused header one
 pub few-processes : (s : List ℕ) (h : Header) → headerOf s ≡ h → (1 ≤ processesBy h) × (processesBy h ≤ 32)

@@ -15,6 +15,7 @@ use Rattle.formats.specs.declared.FileAnswer.{FileAnswer}
 use Rattle.formats.specs.declared.FileAnswer.the-variants.{Whole, BudgetSpent, BodyCut}
 use Rattle.formats.specs.declared.Mark.{Mark}
 use Rattle.formats.specs.declared.Order.{Order}
+use Rattle.formats.specs.Numbers.{placeOf}
 use Rattle.formats.specs.Records.{byteAt, wordAt, fits, markOf, markAt, orderBy, orderAt}
 use Rattle.replays.specs.declared.Counts.{Counts}
 use Rattle.replays.specs.declared.Replayed.{Replayed}
@@ -39,21 +40,23 @@ alike : (a : FileAnswer) (p : ℕ) (m : Machine) {t t′ x x′ r r′ : ℕ} �
     (record { answer = a; place = p; taken = t′; accesses = x′; refused = r′; machine = m })
 alike a p m e f g = λ i. record { answer = a; place = p; taken = e i; accesses = f i; refused = g i; machine = m }
 
-pub resumed-took : (r : Counts) (m : Machine) (c : Call) (o : Orders) → resumed r m (then c o) ≡ resumed (took r m c) (answer m c .machine) o
+pub resumed-took : (s : List ℕ) (r : Counts) (m : Machine) (c : Call) (o : Orders)
+    → resumed s r m (then c o) ≡ resumed s (took r m c) (answer m c .machine) o
 unfolding counts leaves
-resumed-took r m c o =
+resumed-took s r m c o =
     let a = answer m c in
     let one : r .taken + suc (length (o .calls)) ≡ r .taken + 1 + length (o .calls) = omega arith in
-    alike (o .answer) (o .place) (from (a .machine) (o .calls)) one
+    alike (o .answer) (placeOf (o .answer) (o .place) (length s)) (from (a .machine) (o .calls)) one
     (step-count (isStep c) (accepted a) (r .accesses) (tally acceptedStep (a .machine) (o .calls)))
     (refused-count (accepted a) (r .refused) (tally isRefused (a .machine) (o .calls)))
 
-pub resumed-ended : (r : Counts) (m : Machine) (a : FileAnswer) (at : ℕ) → ends a at r m ≡ resumed r m (ended a at)
+pub resumed-ended : (s : List ℕ) (r : Counts) (m : Machine) (a : FileAnswer) (at : ℕ) → ends s a at r m ≡ resumed s r m (ended a at)
 unfolding counts leaves
-resumed-ended r m a at = alike a at m (omega arith) (omega arith) (omega arith)
+resumed-ended s r m a at = alike a (placeOf a at (length s)) m (omega arith) (omega arith) (omega arith)
 
-pub resumed-none : (n : ℕ) (o : Orders) → resumed none (fresh n) o ≡ replayed n o
-resumed-none n o = alike (o .answer) (o .place) (from (fresh n) (o .calls)) (omega arith) (omega arith) (omega arith)
+pub resumed-none : (s : List ℕ) (n : ℕ) (o : Orders) → resumed s none (fresh n) o ≡ replayed s n o
+resumed-none s n o =
+    alike (o .answer) (placeOf (o .answer) (o .place) (length s)) (from (fresh n) (o .calls)) (omega arith) (omega arith) (omega arith)
 
 -- how many bytes an order has
 abbrev pub width : Order → ℕ
@@ -126,7 +129,7 @@ pub record Going (s : List ℕ) (n budget : ℕ) (r : Counts) (m : Machine) (at 
   pub taken : r .taken ≤ budget
   pub accesses : r .accesses ≤ r .taken
   pub refused : r .refused ≤ r .taken
-  pub left : resumed r m (ordersFrom (budget - r .taken) s at) ≡ replayed n (ordersFrom budget s 3)
+  pub left : resumed s r m (ordersFrom (budget - r .taken) s at) ≡ replayed s n (ordersFrom budget s 3)
 
 pub going-none : (s : List ℕ) (n budget : ℕ) → 3 ≤ length s → Going s n budget none (fresh n) 3
 going-none s n budget h =
@@ -136,27 +139,27 @@ going-none s n budget h =
       taken = omega arith;
       accesses = omega arith;
       refused = omega arith;
-      left = ap (λ (k : ℕ). resumed none (fresh n) (ordersFrom k s 3)) e ∙ resumed-none n (ordersFrom budget s 3);
+      left = ap (λ (k : ℕ). resumed s none (fresh n) (ordersFrom k s 3)) e ∙ resumed-none s n (ordersFrom budget s 3);
     }
 
 module _ (s : List ℕ) (n budget : ℕ) (r : Counts) (m : Machine) (at : ℕ) (g : Going s n budget r m at) where
-  over : (a : FileAnswer) (p : ℕ) → ordersFrom (budget - r .taken) s at ≡ ended a p → ends a p r m ≡ replayed n (ordersFrom budget s 3)
-  over a p e = resumed-ended r m a p ∙ ap (resumed r m) (sym e) ∙ g .left
+  over : (a : FileAnswer) (p : ℕ) → ordersFrom (budget - r .taken) s at ≡ ended a p → ends s a p r m ≡ replayed s n (ordersFrom budget s 3)
+  over a p e = resumed-ended s r m a p ∙ ap (resumed s r m) (sym e) ∙ g .left
 
-  pub over-end : length s ≤ at → ends Whole (length s) r m ≡ replayed n (ordersFrom budget s 3)
+  pub over-end : length s ≤ at → ends s Whole (length s) r m ≡ replayed s n (ordersFrom budget s 3)
   over-end h = over Whole (length s) (from-end (budget - r .taken) s at h)
 
-  pub over-spent : r .taken ≡ budget → at < length s → ends BudgetSpent at r m ≡ replayed n (ordersFrom budget s 3)
+  pub over-spent : r .taken ≡ budget → at < length s → ends s BudgetSpent at r m ≡ replayed s n (ordersFrom budget s 3)
   over-spent e h = over BudgetSpent at (from-spent (budget - r .taken) s at (omega arith) h)
 
   module _ (more : r .taken < budget) where
     turn : (o : Order) → orderAt s at ≡ o → ordersFrom (budget - r .taken) s at ≡ orderThen s at o (ordersFrom (budget - (r .taken + 1)) s)
     turn o e = from-order (budget - r .taken) (budget - (r .taken + 1)) s at o (omega arith) e
 
-    pub over-none : orderAt s at ≡ Order.End → ends Whole (length s) r m ≡ replayed n (ordersFrom budget s 3)
+    pub over-none : orderAt s at ≡ Order.End → ends s Whole (length s) r m ≡ replayed s n (ordersFrom budget s 3)
     over-none e = over Whole (length s) (turn Order.End e)
 
-    pub over-fault : (a : FileAnswer) → orderAt s at ≡ Order.Fault a → ends a at r m ≡ replayed n (ordersFrom budget s 3)
+    pub over-fault : (a : FileAnswer) → orderAt s at ≡ Order.Fault a → ends s a at r m ≡ replayed s n (ordersFrom budget s 3)
     over-fault a e = over a at (turn (Order.Fault a) e)
 
     one-more : (c : Call) (o : Order) → orderAt s at ≡ o
@@ -168,7 +171,7 @@ module _ (s : List ℕ) (n budget : ℕ) (r : Counts) (m : Machine) (at : ℕ) (
           taken = omega arith;
           accesses = count-fits (accepted (answer m c)) (tick (isStep c)) (r .accesses) (r .taken) (ticked (isStep c)) (g .accesses);
           refused = refusals (accepted (answer m c)) (r .refused) (r .taken) (g .refused);
-          left = sym (resumed-took r m c (ordersFrom (budget - (r .taken + 1)) s (at + width o))) ∙ ap (resumed r m) (sym (turn o e ∙ f)) ∙ g .left;
+          left = sym (resumed-took s r m c (ordersFrom (budget - (r .taken + 1)) s (at + width o))) ∙ ap (resumed s r m) (sym (turn o e ∙ f)) ∙ g .left;
         }
 
     pub going-enter : (p v : ℕ) → orderAt s at ≡ Order.Enter p v → Going s n budget (took r m (enters p v)) (answer m (enters p v) .machine) (at + 7)

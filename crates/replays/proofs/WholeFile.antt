@@ -1,7 +1,7 @@
 -- Replaying along a whole file: where it stops, with which calls, and each number exactly when it applies there.
 use Prim.Native.Nat.{ℕ, zero, suc, _+_, _-_, _≤_, _<_}
 use mathlib.Core.Bool.{Bool, true, false, cond}
-use mathlib.Core.Path.{_≡_, refl, sym, ap, _∙_, subst, subst₂}
+use mathlib.Core.Path.{_≡_, refl, sym, ap, ap₂, _∙_, subst, subst₂}
 use mathlib.Core.Logic.{inl, inr, _≢_, ⊎-elim}
 use mathlib.Core.List.{List, [], _∷_, _++_, append-assoc, append-nil}
 use native.Mathlib.Nat.{eq-or-lt-of-le}
@@ -15,13 +15,13 @@ use Rattle.formats.specs.declared.FileAnswer.{FileAnswer}
 use Rattle.formats.specs.declared.FileAnswer.the-variants.{Whole, BudgetSpent}
 use Rattle.formats.specs.declared.Header.{Header}
 use Rattle.formats.specs.declared.Order.{Order}
-use Rattle.formats.specs.Numbers.{fileNumber}
+use Rattle.formats.specs.Numbers.{fileNumber, placeOf}
 use Rattle.formats.specs.Records.{byteAt, wordAt, headerOf, orderAt}
-use Rattle.formats.specs.Table.{headerLines}
-use Rattle.sets.specs.Lines.{firstThat}
+use Rattle.formats.specs.Table.{headerLines, placeGiven}
+use Rattle.sets.specs.Lines.{when, firstThat}
 use Rattle.formats.proofs.Reading.{opened}
 use Rattle.formats.proofs.Table.{headerNumber, header-number, header-refused}
-use Rattle.replays.specs.Replays.{Orders, ended, then, orderThen, ordersFrom, replayBy, replayOf, callsBy, callsOf}
+use Rattle.replays.specs.Replays.{Orders, ended, then, orderThen, ordersFrom, replayBy, replayOf, callsBy, callsOf, stopBy, stopOf}
 use Rattle.replays.specs.Table.{orderLines, Holds, start, enter, step, crash, HoldsOne, Refusal, RefusedExactly, WholeExactly, WholePlace}
 use Rattle.replays.proofs.Turns.{width, whole-order, order-end, from-end, from-spent, from-order}
 use Rattle.replays.proofs.Orders.{orderNumber, order-number, enter-stands, step-stands, crash-stands, told}
@@ -226,73 +226,94 @@ holds-one s at cs ds h g =
 file-stops : (s : List ℕ) (budget n : ℕ) → headerOf s ≡ Header.Of n → Stops s budget [] (ordersFrom budget s 3)
 file-stops s budget n e = stops budget s 3 [] (start (header-whole s n e)) (opened s n e .long)
 
--- what a replay answers, by its header
-module _ (s : List ℕ) (budget : ℕ) where
-  pub read-header : (n : ℕ) → headerOf s ≡ Header.Of n
-      → (replayOf s budget .answer ≡ ordersFrom budget s 3 .answer) × (replayOf s budget .place ≡ ordersFrom budget s 3 .place)
-      × (callsOf s budget ≡ ordersFrom budget s 3 .calls)
-  unfolding replayOf
-  read-header n e = (
-    ap (λ (h : Header). replayBy s budget h .answer) e,
-    ap (λ (h : Header). replayBy s budget h .place) e,
-    ap (callsBy s budget) e,
-  )
+-- What a replay answers, by its header.
+record Answered (s : List ℕ) (budget : ℕ) (o : Orders) : Type 0 where
+  answer : replayOf s budget .answer ≡ o .answer
+  place : replayOf s budget .place ≡ placeOf (o .answer) (o .place) (length s)
+  calls : callsOf s budget ≡ o .calls
+  stop : stopOf s budget ≡ o .place
 
-  pub faulty-header : (a : FileAnswer) → headerOf s ≡ Header.Fault a → (replayOf s budget .answer ≡ a) × (replayOf s budget .place ≡ 0)
+module _ (s : List ℕ) (budget : ℕ) where
+  read-header : (n : ℕ) → headerOf s ≡ Header.Of n → Answered s budget (ordersFrom budget s 3)
+  unfolding replayOf
+  read-header n e =
+      record {
+        answer = ap (λ (h : Header). replayBy s budget h .answer) e;
+        place = ap (λ (h : Header). replayBy s budget h .place) e;
+        calls = ap (callsBy s budget) e;
+        stop = ap (stopBy s budget) e;
+      }
+
+  faulty-header : (a : FileAnswer) → headerOf s ≡ Header.Fault a
+      → (replayOf s budget .answer ≡ a) × (replayOf s budget .place ≡ placeOf a 0 (length s))
   unfolding replayOf
   faulty-header a e = (ap (λ (h : Header). replayBy s budget h .answer) e, ap (λ (h : Header). replayBy s budget h .place) e)
 
--- the calls made are those that the file holds up to the place
-pub held-calls : (s : List ℕ) (budget n : ℕ) → headerOf s ≡ Header.Of n → Holds s (replayOf s budget .place) (callsOf s budget)
+  -- the place, by the number and the record where the reading ended
+  pub stop-place : (n : ℕ) → headerOf s ≡ Header.Of n
+      → replayOf s budget .place ≡ placeGiven s (fileNumber (replayOf s budget .answer)) (stopOf s budget)
+  stop-place n e =
+      let r = read-header n e in
+      r .place ∙ ap₂ (λ (a : FileAnswer) (at : ℕ). placeOf a at (length s)) (sym (r .answer)) (sym (r .stop))
+
+-- the calls made are those that the file holds up to that record
+pub held-calls : (s : List ℕ) (budget n : ℕ) → headerOf s ≡ Header.Of n → Holds s (stopOf s budget) (callsOf s budget)
 held-calls s budget n e =
     let r = read-header s budget n e in
-    subst (λ (x : ℕ). Holds s x (callsOf s budget)) (sym (r .1)) (subst (Holds s (ordersFrom budget s 3 .place)) (sym (r .2)) (file-stops s budget n e .held))
+    subst₂ (Holds s) (sym (r .stop)) (sym (r .calls)) (file-stops s budget n e .held)
 
 pub few-calls : (s : List ℕ) (budget n : ℕ) → headerOf s ≡ Header.Of n → length (ordersFrom budget s 3 .calls) ≤ budget
 few-calls s budget n e = file-stops s budget n e .most
 
 -- Each number exactly when it applies.
-module _ (s : List ℕ) (budget k at : ℕ) (some : k ≢ 0) where
-  refusal-why : (n : ℕ) → (o : Orders) → Stops s budget [] o → fileNumber (o .answer) ≡ k → o .place ≡ at → Why s budget o → Refusal s budget k at
-  refusal-why n o g e p (whole w q) = absurd (some (sym e ∙ ap fileNumber w))
-  refusal-why n o g e p (spent w q l) =
+module _ (s : List ℕ) (budget k : ℕ) (some : k ≢ 0) where
+  refusal-why : (o : Orders) → Stops s budget [] o → fileNumber (o .answer) ≡ k → Why s budget o → Refusal s budget k (o .place)
+  refusal-why o g e (whole w q) = absurd (some (sym e ∙ ap fileNumber w))
+  refusal-why o g e (spent w q l) =
       inr (
         o .calls,
-        subst (λ (x : ℕ). Holds s x (o .calls)) p (g .held),
+        g .held,
         g .most,
-        subst (λ (x : ℕ). x < length s) p q,
-        ap (λ (b : Bool). cond b 13 (firstThat (orderLines s at))) (eq-eqb (length (o .calls)) budget l) ∙ sym (ap fileNumber w) ∙ e,
+        q,
+        ap (λ (b : Bool). cond b 13 (firstThat (orderLines s (o .place)))) (eq-eqb (length (o .calls)) budget l) ∙ sym (ap fileNumber w) ∙ e,
       )
-  refusal-why n o g e p (fault a w q l f) =
+  refusal-why o g e (fault a w q l f) =
       let ne : eqb (length (o .calls)) budget ≡ false = ne-eqb (length (o .calls)) budget (λ z. omega arith) in
       let number : firstThat (orderLines s (o .place)) ≡ k = sym (order-number s (o .place) q) ∙ ap orderNumber f ∙ sym (ap fileNumber w) ∙ e in
-      inr (
-        o .calls,
-        subst (λ (x : ℕ). Holds s x (o .calls)) p (g .held),
-        g .most,
-        subst (λ (x : ℕ). x < length s) p q,
-        ap (λ (b : Bool). cond b 13 (firstThat (orderLines s at))) ne ∙ subst (λ (x : ℕ). firstThat (orderLines s x) ≡ k) p number,
-      )
+      inr (o .calls, g .held, g .most, q, ap (λ (b : Bool). cond b 13 (firstThat (orderLines s (o .place)))) ne ∙ number)
 
-  refusal-by : (h : Header) → headerOf s ≡ h → fileNumber (replayOf s budget .answer) ≡ k → replayOf s budget .place ≡ at → Refusal s budget k at
-  refusal-by (Header.Fault a) h e p =
+  refusal-by : (place : ℕ) (h : Header) → headerOf s ≡ h → fileNumber (replayOf s budget .answer) ≡ k → replayOf s budget .place ≡ place
+      → (at : ℕ) × Refusal s budget k at × (place ≡ placeGiven s k at)
+  refusal-by place (Header.Fault a) h e p =
       let r = faulty-header s budget a h in
-      inl (sym p ∙ r .1, sym (header-number s) ∙ ap headerNumber h ∙ sym (ap fileNumber (r .0)) ∙ e)
-  refusal-by (Header.Of n) h e p =
+      let number : fileNumber a ≡ k = sym (ap fileNumber (r .0)) ∙ e in (
+        0,
+        inl (refl, sym (header-number s) ∙ ap headerNumber h ∙ number),
+        sym p ∙ r .1 ∙ ap (λ (x : ℕ). placeGiven s x 0) number,
+      )
+  refusal-by place (Header.Of n) h e p =
       let r = read-header s budget n h in
       let g = file-stops s budget n h in
-      refusal-why n (ordersFrom budget s 3) g (sym (ap fileNumber (r .0)) ∙ e) (sym (r .1) ∙ p) (g .why)
+      let o : Orders = ordersFrom budget s 3 in
+      let number : fileNumber (o .answer) ≡ k = sym (ap fileNumber (r .answer)) ∙ e in (
+        o .place,
+        refusal-why o g number (g .why),
+        sym p ∙ r .place ∙ ap (λ (x : ℕ). placeGiven s x (o .place)) number,
+      )
 
-  -- the other way
+-- The other way.
+module _ (s : List ℕ) (budget k at : ℕ) (some : k ≢ 0) where
   Answers : Type 0
-  Answers = (fileNumber (replayOf s budget .answer) ≡ k) × (replayOf s budget .place ≡ at)
+  Answers = (fileNumber (replayOf s budget .answer) ≡ k) × (replayOf s budget .place ≡ placeGiven s k at)
 
   answers : (a : FileAnswer) (cs : List Call) → Comes s budget at cs → ordersFrom (budget - length cs) s at ≡ ended a at → fileNumber a ≡ k → Answers
   unfolding Answers after
   answers a cs c e z =
       let r = read-header s budget (c .header .0) (c .header .1) in
-      let o : ordersFrom budget s 3 ≡ after cs (ended a at) = c .same ∙ ap (after cs) e in
-      (ap fileNumber (r .0 ∙ ap (λ (x : Orders). x .answer) o) ∙ z, r .1 ∙ ap (λ (x : Orders). x .place) o)
+      let o : ordersFrom budget s 3 ≡ after cs (ended a at) = c .same ∙ ap (after cs) e in (
+        ap fileNumber (r .answer ∙ ap (λ (x : Orders). x .answer) o) ∙ z,
+        r .place ∙ ap (λ (x : Orders). placeOf (x .answer) (x .place) (length s)) o ∙ ap (λ (x : ℕ). placeGiven s x at) z,
+      )
 
   order-answers : (cs : List Call) → Comes s budget at cs → length cs < budget → (o : Order) → orderAt s at ≡ o → orderNumber o ≡ k → Answers
   order-answers cs c l Order.End e z = absurd (some (sym z))
@@ -310,20 +331,57 @@ module _ (s : List ℕ) (budget k at : ℕ) (some : k ≢ 0) where
       let less : length cs < budget = ⊎-elim (λ q. absurd (eqb-false (length cs) budget e q)) (λ q. q) (eq-or-lt-of-le l) in
       order-answers cs (comes budget h l) less (orderAt s at) refl (order-number s at in-file ∙ z)
 
-header-answers : (s : List ℕ) (budget k : ℕ) → k ≢ 0 → (h : Header) → headerOf s ≡ h → headerNumber h ≡ k
-    → (fileNumber (replayOf s budget .answer) ≡ k) × (replayOf s budget .place ≡ 0)
-header-answers s budget k n (Header.Of m) e f = absurd (n (sym f))
-header-answers s budget k n (Header.Fault a) e f = let r = faulty-header s budget a e in (ap fileNumber (r .0) ∙ f, r .1)
+-- the calls before a record that is refused are made
+pub calls-before : (s : List ℕ) (budget at : ℕ) (cs : List Call) → Holds s at cs → length cs < budget → at < length s
+    → firstThat (when 13 (eqb (length cs) budget) ∷ orderLines s at) ≢ 0 → callsOf s budget ≡ cs
+unfolding after
+calls-before s budget at cs h l i n = go (orderAt s at) refl
+  where
+    ne : eqb (length cs) budget ≡ false
+    ne = ne-eqb (length cs) budget (λ z. omega arith)
 
-refused-at : (s : List ℕ) (budget k at : ℕ) → k ≢ 0 → Refusal s budget k at → (fileNumber (replayOf s budget .answer) ≡ k) × (replayOf s budget .place ≡ at)
+    no : orderNumber (orderAt s at) ≡ 0 → ⊥
+    no e = n (ap (λ (b : Bool). cond b 13 (firstThat (orderLines s at))) ne ∙ sym (order-number s at i) ∙ e)
+
+    go : (o : Order) → orderAt s at ≡ o → callsOf s budget ≡ cs
+    go (Order.Fault a) e =
+        let c = comes budget h (omega arith) in
+        read-header s budget (c .header .0) (c .header .1) .calls
+        ∙ ap (λ (x : Orders). x .calls)
+        (c .same ∙ ap (after cs) (from-order (budget - length cs) (budget - (length cs + 1)) s at (Order.Fault a) (omega arith) e))
+        ∙ append-nil cs
+    go Order.End e = absurd (no (ap orderNumber e))
+    go (Order.Enter p v) e = absurd (no (ap orderNumber e))
+    go (Order.Step p) e = absurd (no (ap orderNumber e))
+    go (Order.Crash p) e = absurd (no (ap orderNumber e))
+
+-- and of a refused header there are none
+pub no-calls-of : (s : List ℕ) (budget : ℕ) → firstThat (headerLines s) ≢ 0 → callsOf s budget ≡ []
+no-calls-of s budget n = go (headerOf s) refl
+  where
+    go : (h : Header) → headerOf s ≡ h → callsOf s budget ≡ []
+    go (Header.Fault a) e = ap (callsBy s budget) e
+    go (Header.Of m) e = absurd (n (header-whole s m e))
+
+header-answers : (s : List ℕ) (budget k : ℕ) → k ≢ 0 → (h : Header) → headerOf s ≡ h → headerNumber h ≡ k
+    → (fileNumber (replayOf s budget .answer) ≡ k) × (replayOf s budget .place ≡ placeGiven s k 0)
+header-answers s budget k n (Header.Of m) e f = absurd (n (sym f))
+header-answers s budget k n (Header.Fault a) e f =
+    let r = faulty-header s budget a e in (ap fileNumber (r .0) ∙ f, r .1 ∙ ap (λ (x : ℕ). placeGiven s x 0) f)
+
+refused-at : (s : List ℕ) (budget k at : ℕ) → k ≢ 0 → Refusal s budget k at
+    → (fileNumber (replayOf s budget .answer) ≡ k) × (replayOf s budget .place ≡ placeGiven s k at)
 unfolding Answers
 refused-at s budget k at n =
     ⊎-elim
-    (λ p. let r = header-answers s budget k n (headerOf s) refl (header-number s ∙ p .1) in (r .0, r .1 ∙ sym (p .0)))
+    (λ p. let r = header-answers s budget k n (headerOf s) refl (header-number s ∙ p .1) in (r .0, r .1 ∙ ap (placeGiven s k) (sym (p .0))))
     (λ p. record-answers s budget k at n (p .0) (p .1) (p .2) (p .3) (eqb (length (p .0)) budget) refl (p .4))
 
 pub refused-exactly : RefusedExactly
-refused-exactly s budget k at n = (λ p. refusal-by s budget k at n (headerOf s) refl (p .0) (p .1), refused-at s budget k at n)
+refused-exactly s budget k place n = (
+  λ p. refusal-by s budget k n place (headerOf s) refl (p .0) (p .1),
+  λ p. let a = refused-at s budget k (p .0) n (p .1) in (a .0, a .1 ∙ sym (p .2)),
+)
 
 -- And 0.
 whole-why : (s : List ℕ) (k : ℕ) (o : Orders) → Why s k o → fileNumber (o .answer) ≡ 0 → o .place ≡ length s
@@ -339,11 +397,17 @@ read-zero s budget z (Header.Fault a) e = absurd (header-refused s a e (sym (ap 
 pub zero-read : (s : List ℕ) (budget : ℕ) → fileNumber (replayOf s budget .answer) ≡ 0 → (n : ℕ) × (headerOf s ≡ Header.Of n)
 zero-read s budget z = read-zero s budget z (headerOf s) refl
 
+-- all of it was read
+pub whole-stop : (s : List ℕ) (budget : ℕ) → fileNumber (replayOf s budget .answer) ≡ 0 → stopOf s budget ≡ length s
+whole-stop s budget z =
+    let h = zero-read s budget z in
+    let r = read-header s budget (h .0) (h .1) in
+    r .stop ∙ whole-why s budget (ordersFrom budget s 3) (file-stops s budget (h .0) (h .1) .why) (ap fileNumber (sym (r .answer)) ∙ z)
+
 pub whole-place : WholePlace
 whole-place s budget z =
     let h = zero-read s budget z in
-    let r = read-header s budget (h .0) (h .1) in
-    r .1 ∙ whole-why s budget (ordersFrom budget s 3) (file-stops s budget (h .0) (h .1) .why) (ap fileNumber (sym (r .0)) ∙ z)
+    stop-place s budget (h .0) (h .1) ∙ ap (λ (x : ℕ). placeGiven s x (stopOf s budget)) z ∙ whole-stop s budget z
 
 ends-with : (s : List ℕ) (budget : ℕ) (cs : List Call) → Comes s budget (length s) cs
     → (fileNumber (replayOf s budget .answer) ≡ 0) × (callsOf s budget ≡ cs)
@@ -351,14 +415,14 @@ unfolding after
 ends-with s budget cs c =
     let r = read-header s budget (c .header .0) (c .header .1) in
     let o : ordersFrom budget s 3 ≡ after cs (ended Whole (length s)) = c .same ∙ ap (after cs) (from-end (budget - length cs) s (length s) (omega arith)) in
-    (ap fileNumber (r .0 ∙ ap (λ (x : Orders). x .answer) o), r .2 ∙ ap (λ (x : Orders). x .calls) o ∙ append-nil cs)
+    (ap fileNumber (r .answer ∙ ap (λ (x : Orders). x .answer) o), r .calls ∙ ap (λ (x : Orders). x .calls) o ∙ append-nil cs)
 
 pub whole-exactly : WholeExactly
 whole-exactly s budget cs = (
   λ t.
       let h = zero-read s budget (t .0) in
-      let c : ordersFrom budget s 3 .calls ≡ cs = sym (read-header s budget (h .0) (h .1) .2) ∙ t .1 in (
-        subst₂ (Holds s) (whole-place s budget (t .0)) (t .1) (held-calls s budget (h .0) (h .1)),
+      let c : ordersFrom budget s 3 .calls ≡ cs = sym (read-header s budget (h .0) (h .1) .calls) ∙ t .1 in (
+        subst₂ (Holds s) (whole-stop s budget (t .0)) (t .1) (held-calls s budget (h .0) (h .1)),
         omega (arith, few-calls s budget (h .0) (h .1), ap length c),
       ),
   λ p. ends-with s budget cs (comes budget (p .0) (p .1)),

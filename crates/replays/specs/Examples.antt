@@ -1,10 +1,11 @@
 -- Examples of order files: document 01's printed one, its two with budget 0, one for each number and each place where it is given, and one whose bytes
 -- are spelled out; and of view files that are written.
-use Prim.Native.Nat.{ℕ}
+use Prim.Native.Nat.{ℕ, _+_, _*_}
 use mathlib.Core.Path.{_≡_}
 use mathlib.Core.List.{List, [], _∷_, _++_}
 use lib.ListN.{length, take, replicate}
 use Rattle.text.specs.Ascii.{ascii}
+use Rattle.text.specs.Parts.{joined}
 use Rattle.rules.specs.declared.Stage.{Stage}
 use Rattle.rules.specs.declared.Stage.the-variants.{Running, Finished, Crashed}
 use Rattle.rules.specs.declared.Process.{Process}
@@ -14,7 +15,7 @@ use Rattle.rules.specs.Calls.{fresh}
 use Rattle.history.specs.Runs.{Call, enters, steps, crashes, runs}
 use Rattle.history.specs.Examples.{printed}
 use Rattle.formats.specs.Numbers.{fileNumber}
-use Rattle.formats.specs.Examples.{MN}
+use Rattle.formats.specs.Examples.{MN, cut, headerCuts, recordCuts}
 use Rattle.replays.specs.Replays.{replayOf, callsOf, processesOf}
 use Rattle.replays.specs.OrderFile.{orderFile}
 use Rattle.replays.specs.Writes.{writeNumber, bytesOf, writeOf, bufferOf}
@@ -51,19 +52,26 @@ pub record Printed : Type 0 where
   pub short-place : replayOf printedFile 11 .place ≡ 44
   pub short-taken : replayOf printedFile 11 .taken ≡ 11
 
+-- Every cut of it: its first 0, 1, 2, .. bytes, and last the file.
+abbrev pub PrintedCuts : Type 0
+PrintedCuts =
+    joined 0 48 (λ k. let r = replayOf (take k printedFile) 65535 in cut (fileNumber (r .answer)) (r .place) ∷ [])
+    ≡ headerCuts ++ recordCuts 3 7 ++ recordCuts 10 7 ++ joined 0 10 (λ i. recordCuts (17 + 3 * i) 3) ++ cut 0 47 ∷ []
+
 -- Files of which no order is taken.
 pub record Small : Type 0 where
   -- "Budget 0 and nothing after the header: 0. Budget 0 and one byte after it: 13."
   pub spent-none : RunLine (MN 2) 0 0 3 0 0 0
   pub spent-one : RunLine (MN 2 ++ 0 ∷ []) 0 13 3 0 0 0
   -- 13 comes before any look at the next record, and the header's own faults before 13
+  pub spent-cut : RunLine (MN 2 ++ ascii "ST") 0 13 3 0 0 0
   pub spent-header : RunLine (MN 2 ++ MN 2) 0 13 3 0 0 0
   pub empty : RunLine [] 0 9 0 0 0 0
   pub one-byte : RunLine (ascii "M") 0 11 0 0 0 0
   pub other-byte : RunLine (0 ∷ []) 0 11 0 0 0 0
   pub other-mark : RunLine (EN 1 7) 0 9 0 0 0 0
   pub half-mark : RunLine (ascii "MX" ++ 2 ∷ []) 0 9 0 0 0 0
-  pub bare-mark : RunLine (ascii "MN") 0 11 0 0 0 0
+  pub bare-mark : RunLine (ascii "MN") 0 24 2 0 0 0
   pub none : RunLine (MN 0 ++ ST 1) 0 8 0 0 0 0
   pub many : RunLine (MN 33 ++ ST 1) 5 8 0 0 0 0
   pub fewest : RunLine (MN 1) 5 0 3 0 0 0
@@ -76,15 +84,16 @@ pub record Small : Type 0 where
   pub view : RunLine (MN 2 ++ ascii "VW") 5 10 3 0 0 0
   pub foreign : RunLine (MN 2 ++ 0 ∷ 0 ∷ []) 5 10 3 0 0 0
   pub half-foreign : RunLine (MN 2 ++ ascii "SN" ++ 1 ∷ []) 5 10 3 0 0 0
-  pub enter-cut : RunLine (MN 2 ++ ascii "EN" ++ 1 ∷ 7 ∷ 0 ∷ 0 ∷ []) 5 11 3 0 0 0
-  pub step-cut : RunLine (MN 2 ++ ascii "ST") 5 11 3 0 0 0
-  pub crash-cut : RunLine (MN 2 ++ ascii "CR") 5 11 3 0 0 0
+  pub enter-cut : RunLine (MN 2 ++ ascii "EN" ++ 1 ∷ 7 ∷ 0 ∷ 0 ∷ []) 5 24 9 0 0 0
+  pub step-cut : RunLine (MN 2 ++ ascii "ST") 5 24 5 0 0 0
+  pub crash-cut : RunLine (MN 2 ++ ascii "CR") 5 24 5 0 0 0
 
 -- "An order the machine refuses is counted among the orders taken and among the orders refused, and skipped": a process above n; then a fault
 -- leaves the counts as they are.
 pub record OrdersRefused : Type 0 where
   pub skipped : RunLine (MN 2 ++ ST 3) 1 0 6 1 0 1
   pub then-cut : RunLine (MN 2 ++ ST 3 ++ ascii "S") 2 11 6 1 0 1
+  pub then-cut-later : RunLine (MN 2 ++ ST 3 ++ ascii "ST") 2 24 8 1 0 1
   pub then-spent : RunLine (MN 2 ++ ST 3 ++ ST 3) 1 13 6 1 0 1
 
 -- After a refused header: a machine of one process, whatever the header says, and the orders behind it are not made.

@@ -2,6 +2,7 @@
 pub mod Replays
 pub mod OrderFile
 pub mod Table
+pub mod Cuts
 pub mod Writes
 pub mod Promises
 pub mod Examples

@@ -23,7 +23,7 @@ use Rattle.history.specs.Theorems.{OfEveryRun, NeitherOneNorSeven, total}
 use Rattle.formats.specs.declared.FileAnswer.the-variants.{Whole}
 use Rattle.formats.specs.Numbers.{fileNumber}
 use Rattle.formats.specs.Records.{byteAt}
-use Rattle.formats.specs.Table.{headerLines}
+use Rattle.formats.specs.Table.{headerLines, placeGiven}
 use Rattle.formats.specs.Views.{owns, seenBy, valueBy}
 use Rattle.formats.specs.ViewFile.{readOf, readWhole}
 use Rattle.formats.specs.Promises.{Bytes, File}
@@ -31,7 +31,7 @@ use Rattle.findings.specs.declared.Finding.{Finding}
 use Rattle.findings.specs.Findings.{found, checkOf}
 use Rattle.findings.specs.Verdict.{judged, verdictOf}
 use Rattle.replays.specs.declared.Replayed.{Replayed}
-use Rattle.replays.specs.Replays.{replayed, replayOf, callsOf, processesOf}
+use Rattle.replays.specs.Replays.{replayed, replayOf, callsOf, stopOf, processesOf}
 use Rattle.replays.specs.Writes.{writeNumber, viewsOf, bytesOf, writeOf, bufferOf}
 use Rattle.replays.specs.OrderFile.{orderFile, FileCalls}
 use Rattle.replays.specs.Table.{Holds}
@@ -48,10 +48,12 @@ pub record Counted (n : ℕ) (cs : List Call) (budget : ℕ) (r : Replayed) : Ty
 abbrev pub EveryFileCounted : Type 0
 EveryFileCounted = (s : List ℕ) (budget : ℕ) → Counted (processesOf s) (callsOf s budget) budget (replayOf s budget)
 
--- Of a file whose header has no fault these are the calls that its bytes hold, on a machine of as many processes as its third byte says.
+-- Of a file whose header has no fault these are the calls that its bytes hold up to the record where the reading ended, on a machine of as many
+-- processes as its third byte says. The place answered is that record's, or with 24 the file's length.
 pub record FromBytes (s : List ℕ) (budget : ℕ) : Type 0 where
   pub processes : processesOf s ≡ byteAt s 2
-  pub calls : Holds s (replayOf s budget .place) (callsOf s budget)
+  pub calls : Holds s (stopOf s budget) (callsOf s budget)
+  pub place : replayOf s budget .place ≡ placeGiven s (fileNumber (replayOf s budget .answer)) (stopOf s budget)
 
 abbrev pub EveryFileHolds : Type 0
 EveryFileHolds = (s : List ℕ) (budget : ℕ) → firstThat (headerLines s) ≡ 0 → FromBytes s budget
@@ -59,17 +61,17 @@ EveryFileHolds = (s : List ℕ) (budget : ℕ) → firstThat (headerLines s) ≡
 -- The other way, every list of calls that records can carry is the replay of a file, with any budget that is enough,
 abbrev pub EveryListReplays : Type 0
 EveryListReplays = (n : ℕ) → 1 ≤ n → n ≤ 32 → (cs : List Call) → FileCalls cs → (budget : ℕ) → length cs ≤ budget
-    → replayOf (orderFile n cs) budget ≡ replayed n (record { answer = Whole; place = length (orderFile n cs); calls = cs })
+    → replayOf (orderFile n cs) budget ≡ replayed (orderFile n cs) n (record { answer = Whole; place = length (orderFile n cs); calls = cs })
 
 -- and that file is bytes.
 abbrev pub OrderFileBytes : Type 0
 OrderFileBytes = (n : ℕ) → n ≤ 32 → (cs : List Call) → FileCalls cs → Bytes (orderFile n cs)
 
--- Every file is such a file up to its place, if its header has no fault: a call that is taken is one that a record can carry, and its record has just
--- the bytes that it is written with. What a function is handed as a slice is a file (`slice-file` of formats/proofs/Typed).
+-- Every file is such a file up to the record where the reading ended, if its header has no fault: a call that is taken is one that a record can carry,
+-- and its record has just the bytes that it is written with. What a function is handed as a slice is a file (`slice-file` of formats/proofs/Typed).
 pub record OfCalls (s : List ℕ) (budget : ℕ) : Type 0 where
   pub carried : FileCalls (callsOf s budget)
-  pub bytes : take (replayOf s budget .place) s ≡ orderFile (processesOf s) (callsOf s budget)
+  pub bytes : take (stopOf s budget) s ≡ orderFile (processesOf s) (callsOf s budget)
 
 abbrev pub EveryFileOfCalls : Type 0
 EveryFileOfCalls = (f : File) (budget : ℕ) → firstThat (headerLines (f .content)) ≡ 0 → OfCalls (f .content) budget
@@ -80,16 +82,17 @@ WholeFileOfCalls = (f : File) (budget : ℕ) → fileNumber (replayOf (f .conten
     → f .content ≡ orderFile (processesOf (f .content)) (callsOf (f .content) budget)
 
 -- "After a refused header the state is a fresh machine of one process and the three counts are 0", at every budget: "its own faults come before 13".
-pub record NoneTaken (k : ℕ) (r : Replayed) : Type 0 where
+-- The place is 0, or with 24, of `MN` alone, the file's length.
+pub record NoneTaken (s : List ℕ) (k : ℕ) (r : Replayed) : Type 0 where
   pub number : fileNumber (r .answer) ≡ k
-  pub place : r .place ≡ 0
+  pub place : r .place ≡ placeGiven s k 0
   pub taken : r .taken ≡ 0
   pub accesses : r .accesses ≡ 0
   pub refused : r .refused ≡ 0
   pub state : r .machine ≡ fresh 1
 
 abbrev pub EveryRefusedHeader : Type 0
-EveryRefusedHeader = (s : List ℕ) (budget : ℕ) → firstThat (headerLines s) ≢ 0 → NoneTaken (firstThat (headerLines s)) (replayOf s budget)
+EveryRefusedHeader = (s : List ℕ) (budget : ℕ) → firstThat (headerLines s) ≢ 0 → NoneTaken s (firstThat (headerLines s)) (replayOf s budget)
 
 -- Demand 3 of a state m that a list of calls leaves of a fresh machine of n processes.
 pub record DemandThree (n : ℕ) (cs : List Call) (m : Machine) : Type 0 where

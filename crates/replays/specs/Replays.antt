@@ -10,10 +10,11 @@ use Rattle.formats.specs.declared.FileAnswer.{FileAnswer}
 use Rattle.formats.specs.declared.FileAnswer.the-variants.{Whole, BudgetSpent}
 use Rattle.formats.specs.declared.Header.{Header}
 use Rattle.formats.specs.declared.Order.{Order}
+use Rattle.formats.specs.Numbers.{placeOf}
 use Rattle.formats.specs.Records.{headerOf, orderAt}
 use Rattle.replays.specs.declared.Replayed.{Replayed}
 
--- what a file holds: the calls up to a place, and why the reading ended there
+-- What a file holds: the calls up to a place, and why the reading ended there. The place is that of the record that was not taken.
 pub record Orders : Type 0 where
   pub answer : FileAnswer
   pub place : ℕ
@@ -25,7 +26,7 @@ ended a at = record { answer = a; place = at; calls = [] }
 abbrev pub then : Call → Orders → Orders
 then c o = record { answer = o .answer; place = o .place; calls = c ∷ o .calls }
 
--- What stands at a place, and what follows it there. "The place is the offset of the record's mark, or the file's length when all was read."
+-- What stands at a place, and what follows it there: "the offset of the record's mark, or the file's length when all was read."
 abbrev pub orderThen : List ℕ → ℕ → Order → (ℕ → Orders) → Orders
 orderThen s at Order.End next = ended Whole (length s)
 orderThen s at (Order.Fault a) next = ended a at
@@ -40,11 +41,11 @@ ordersFrom (suc budget) s at = orderThen s at (orderAt s at) (ordersFrom budget 
 
 -- "A replay returns number, place, orders taken, accesses made, orders refused, and the state after the orders taken." "Accesses made is the number
 -- of accepted steps." An order that the machine refuses is among the calls: it leaves the state as it was.
-abbrev pub replayed : ℕ → Orders → Replayed
-replayed n o =
+abbrev pub replayed : List ℕ → ℕ → Orders → Replayed
+replayed s n o =
     record {
       answer = o .answer;
-      place = o .place;
+      place = placeOf (o .answer) (o .place) (length s);
       taken = length (o .calls);
       accesses = allSteps n (o .calls);
       refused = refusedCalls n (o .calls);
@@ -52,13 +53,13 @@ replayed n o =
     }
 
 -- "After a refused header the state is a fresh machine of one process and the three counts are 0."
-abbrev pub noReplay : FileAnswer → Replayed
-noReplay a = record { answer = a; place = 0; taken = 0; accesses = 0; refused = 0; machine = fresh 1 }
+abbrev pub noReplay : List ℕ → FileAnswer → Replayed
+noReplay s a = record { answer = a; place = placeOf a 0 (length s); taken = 0; accesses = 0; refused = 0; machine = fresh 1 }
 
 -- "The header is no order; it is read first, at every budget, and its own faults come before 13."
 abbrev pub replayBy : List ℕ → ℕ → Header → Replayed
-replayBy s budget (Header.Of n) = replayed n (ordersFrom budget s 3)
-replayBy s budget (Header.Fault a) = noReplay a
+replayBy s budget (Header.Of n) = replayed s n (ordersFrom budget s 3)
+replayBy s budget (Header.Fault a) = noReplay s a
 
 unfoldable pub replayOf : List ℕ → ℕ → Replayed
 replayOf s budget = replayBy s budget (headerOf s)
@@ -70,6 +71,14 @@ callsBy s budget (Header.Fault a) = []
 
 abbrev pub callsOf : List ℕ → ℕ → List Call
 callsOf s budget = callsBy s budget (headerOf s)
+
+-- the place where the reading ended
+abbrev pub stopBy : List ℕ → ℕ → Header → ℕ
+stopBy s budget (Header.Of n) = ordersFrom budget s 3 .place
+stopBy s budget (Header.Fault a) = 0
+
+abbrev pub stopOf : List ℕ → ℕ → ℕ
+stopOf s budget = stopBy s budget (headerOf s)
 
 abbrev pub processesBy : Header → ℕ
 processesBy (Header.Of n) = n

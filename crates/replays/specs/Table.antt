@@ -1,5 +1,5 @@
--- Document 01's numbers 8 to 13 of an order file, apart from the definition of reading: when each applies at a record, in the order in which they
--- are looked for. "The place is the offset of the record's mark, or the file's length when all was read."
+-- The numbers 8 to 13 and 24 of an order file, apart from the definition of reading: when each applies at a record, in the order in which they are looked
+-- for.
 use Prim.Native.Nat.{ℕ, _+_, _≤_, _<_}
 use Prim.Native.String.{String}
 use mathlib.Core.Bool.{Bool, true, not, _||_, cond}
@@ -12,7 +12,7 @@ use Rattle.history.specs.Runs.{Call, enters, steps, crashes}
 use Rattle.formats.specs.Numbers.{fileNumber}
 use Rattle.formats.specs.Records.{byteAt, wordAt, spells}
 use Rattle.sets.specs.Lines.{Line, when, firstThat}
-use Rattle.formats.specs.Table.{headerLines}
+use Rattle.formats.specs.Table.{headerLines, placeGiven}
 use Rattle.replays.specs.Replays.{replayOf, callsOf}
 
 -- the mark at a place
@@ -25,7 +25,7 @@ orderLines s at =
     when 11 (eqb (length s) (at + 1))
     ∷ when 12 (marked s at "MN")
     ∷ when 10 (not (marked s at "EN" || marked s at "ST" || marked s at "CR"))
-    ∷ when 11 (cond (marked s at "EN") (ltb (length s) (at + 7)) (ltb (length s) (at + 3)))
+    ∷ when 24 (cond (marked s at "EN") (ltb (length s) (at + 7)) (ltb (length s) (at + 3)))
     ∷ []
 
 -- a record with this mark stands whole at a place: bytes are left there, and no line applies
@@ -47,18 +47,19 @@ pub data Holds (s : List ℕ) : ℕ → List Call → Type 0 where
 abbrev pub HoldsOne : Type 0
 HoldsOne = (s : List ℕ) (at : ℕ) (cs ds : List Call) → Holds s at cs → Holds s at ds → cs ≡ ds
 
--- Number k applies at a place, and is the first that does. The header's faults come first; "if bytes are left and the budget is used up, 13 comes
--- before any look at the next record."
+-- Number k applies at the record that stands at a place, and is the first that does. The header's faults come first; "if bytes are left and the budget
+-- is used up, 13 comes before any look at the next record."
 abbrev pub Refusal : List ℕ → ℕ → ℕ → ℕ → Type 0
 Refusal s budget k at =
     ((at ≡ 0) × (firstThat (headerLines s) ≡ k))
     ⊎ ((cs : List Call) × Holds s at cs × (length cs ≤ budget) × (at < length s)
     × (firstThat (when 13 (eqb (length cs) budget) ∷ orderLines s at) ≡ k))
 
--- each number is given, with its place, exactly when it applies there
+-- each number is given, with its place, exactly when it applies at a record
 abbrev pub RefusedExactly : Type 0
-RefusedExactly = (s : List ℕ) (budget k at : ℕ) → k ≢ 0
-    → ((fileNumber (replayOf s budget .answer) ≡ k) × (replayOf s budget .place ≡ at)) ↔ Refusal s budget k at
+RefusedExactly = (s : List ℕ) (budget k place : ℕ) → k ≢ 0
+    → ((fileNumber (replayOf s budget .answer) ≡ k) × (replayOf s budget .place ≡ place))
+    ↔ ((at : ℕ) × Refusal s budget k at × (place ≡ placeGiven s k at))
 
 -- and 0 exactly when the records up to the file's end hold calls within the budget: they are then the calls made
 abbrev pub WholeExactly : Type 0

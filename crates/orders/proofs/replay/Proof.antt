@@ -47,7 +47,7 @@ returns-2 c =
     let a = h .before .before .args in
     let g = c .before .before .before .before .a .given in
     c .ends .ensures
-    ∙ ap₂ (ends (g .0 .0) 0) (c .before .before .none .ensures) (c .before .fresh .ensures)
+    ∙ ap₂ (ends (now (a .s)) (g .0 .0) 0) (c .before .before .none .ensures) (c .before .fresh .ensures)
     ∙ ap (replayBy (now (a .s)) (a .budget)) (sym (g .1) ∙ h .header-of .ensures)
 
 pub replay-spec : {M : Type 1} → statement M

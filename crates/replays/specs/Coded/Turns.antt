@@ -1,6 +1,7 @@
 -- Replaying order by order, as the code does it: the three counts and the state after the orders taken so far.
 use Prim.Native.Nat.{ℕ, _+_, _≤_, _<_}
 use mathlib.Core.Bool.{cond}
+use mathlib.Core.List.{List}
 use lib.Dec.{eqb}
 use lib.ListN.{length}
 use Rattle.sets.specs.Members.{tick}
@@ -9,6 +10,7 @@ use Rattle.rules.specs.declared.Machine.{Machine}
 use Rattle.rules.specs.Calls.{numberOf}
 use Rattle.history.specs.Runs.{Call, answer, from, tally, isStep, acceptedStep, isRefused}
 use Rattle.formats.specs.declared.FileAnswer.{FileAnswer}
+use Rattle.formats.specs.Numbers.{placeOf}
 use Rattle.replays.specs.declared.Counts.{Counts}
 use Rattle.replays.specs.declared.Replayed.{Replayed}
 use Rattle.replays.specs.Replays.{Orders}
@@ -30,16 +32,17 @@ counted k a step =
 abbrev pub took : Counts → Machine → Call → Counts
 took k m c = counted k (answer m c .answer) (tick (isStep c))
 
--- where the replay ends
-abbrev pub ends : FileAnswer → ℕ → Counts → Machine → Replayed
-ends a at k m = record { answer = a; place = at; taken = k .taken; accesses = k .accesses; refused = k .refused; machine = m }
+-- where the replay of a file ends
+abbrev pub ends : List ℕ → FileAnswer → ℕ → Counts → Machine → Replayed
+ends s a at k m =
+    record { answer = a; place = placeOf a at (length s); taken = k .taken; accesses = k .accesses; refused = k .refused; machine = m }
 
 -- the orders that are left, taken after those that were counted and left the machine
-abbrev pub resumed : Counts → Machine → Orders → Replayed
-resumed k m o =
+abbrev pub resumed : List ℕ → Counts → Machine → Orders → Replayed
+resumed s k m o =
     record {
       answer = o .answer;
-      place = o .place;
+      place = placeOf (o .answer) (o .place) (length s);
       taken = k .taken + length (o .calls);
       accesses = k .accesses + tally acceptedStep m (o .calls);
       refused = k .refused + tally isRefused m (o .calls);
