@@ -1,9 +1,9 @@
--- The bytes of a file of calls, and the calls of a file of bytes: up to the record where its reading ended a file has just the bytes that its calls are written with.
+-- The bytes of a file of calls, and the calls of a file of bytes: up to the record that was not taken a file has just the bytes that its calls are written with.
 use Prim.Native.Nat.{ℕ, zero, suc, _+_, _*_, _/_, _%_, _≤_, _<_}
 use Prim.Native.String.{String}
 use mathlib.Core.Bool.{true}
 use mathlib.Core.Path.{_≡_, refl, sym, ap, ap₂, _∙_}
-use mathlib.Core.List.{List, [], _∷_, _++_, append-assoc, append-nil}
+use mathlib.Core.List.{List, [], _∷_, _++_, append-assoc}
 use native.Mathlib.Nat.{add-zero}
 use native.Mathlib.Omega.{arith}
 use lib.ListN.{length, take, drop}
@@ -16,13 +16,14 @@ use Rattle.formats.specs.Promises.{Bytes}
 use Rattle.formats.proofs.Ranges.{word-below}
 use Rattle.formats.proofs.Shortened.{header-stands}
 use Rattle.formats.proofs.RoundTrip.{bytes-none, bytes-one, bytes-append, bytes-word}
-use Rattle.replays.specs.Replays.{callsBy, callsOf, stopOf}
+use Rattle.replays.specs.Replays.{callsBy, callsOf}
 use Rattle.replays.specs.OrderFile.{callBytes, orderBytes, orderFile, FileCall, FileCalls}
 use Rattle.replays.specs.Table.{marked, Holds, start, enter, step, crash}
-use Rattle.replays.specs.Promises.{OrderFileBytes, EveryFileOfCalls, WholeFileOfCalls}
+use Rattle.replays.specs.Promises.{takenTo, OrderFileBytes, EveryFileOfCalls, WholeFileOfCalls}
 use Rattle.replays.proofs.Orders.{letter, mark-bytes, enter-long, step-long, crash-long}
-use Rattle.replays.proofs.WholeFile.{header-whole, zero-read, whole-stop}
-use Rattle.replays.proofs.Promises.{every-file-holds}
+use Rattle.replays.proofs.WholeFile.{header-whole, zero-read}
+use Rattle.replays.proofs.Promises.{whole-taken, every-file-holds}
+use Rattle.replays.proofs.OrderFile.{last-call}
 
 -- A file of calls is bytes.
 mark-and-byte : (x y p : ℕ) (t : List ℕ) → x < 256 → y < 256 → p < 256 → Bytes t → Bytes (x ∷ y ∷ p ∷ t)
@@ -104,11 +105,6 @@ module _ (s : List ℕ) (b : Bytes s) (at : ℕ) where
       ∙ append-assoc (take at s) (ascii "EN" ++ byteAt s (at + 2) ∷ []) (wordBytes (wordAt s (at + 3)))
 
 -- one call more at the end
-last-call : (cs : List Call) (c : Call) → orderBytes (cs ++ c ∷ []) ≡ orderBytes cs ++ callBytes c
-unfolding orderBytes
-last-call [] c = append-nil (callBytes c)
-last-call (d ∷ cs) c = ap (λ (l : List ℕ). callBytes d ++ l) (last-call cs c) ∙ sym (append-assoc (callBytes d) (orderBytes cs) (callBytes c))
-
 file-more : (s : List ℕ) (at k : ℕ) (cs : List Call) (c : Call) → take at s ≡ orderFile (byteAt s 2) cs → take k s ≡ take at s ++ callBytes c
     → take k s ≡ orderFile (byteAt s 2) (cs ++ c ∷ [])
 file-more s at k cs c e f =
@@ -154,5 +150,5 @@ pub whole-file-of-calls : WholeFileOfCalls
 whole-file-of-calls f budget z =
     let s = f .content in
     let h = zero-read s budget z in
-    let all : take (stopOf s budget) s ≡ s = ap (λ (k : ℕ). take k s) (whole-stop s budget z) ∙ take-length s in
+    let all : take (takenTo s budget) s ≡ s = ap (λ (k : ℕ). take k s) (whole-taken s budget z) ∙ take-length s in
     sym all ∙ every-file-of-calls f budget (header-whole s (h .0) (h .1)) .bytes

@@ -1,22 +1,22 @@
--- Every list of calls is the replay of a file: its bytes read back as the same calls.
+-- Every list of calls is the replay of a file: its bytes read back as the same calls. And how long such a file is.
 use Prim.Native.Nat.{ℕ, zero, suc, _+_, _≤_}
 use Prim.Native.String.{String}
 use mathlib.Core.Bool.{true}
 use mathlib.Core.Path.{_≡_, refl, sym, ap, ap₂, _∙_, subst}
-use mathlib.Core.List.{List, [], _∷_, _++_, append-assoc}
+use mathlib.Core.List.{List, [], _∷_, _++_, append-assoc, append-nil}
 use native.Mathlib.Nat.{add-zero}
 use native.Mathlib.Omega.{arith}
 use lib.ListN.{length, length-append}
 use Rattle.history.specs.Runs.{Call, enters, steps, crashes}
 use Rattle.formats.specs.declared.FileAnswer.the-variants.{Whole}
 use Rattle.formats.specs.declared.Order.{Order}
-use Rattle.formats.specs.Records.{byteAt, spells, orderAt}
+use Rattle.formats.specs.Records.{byteAt, wordAt, spells, orderAt}
 use Rattle.formats.proofs.Bytes.{word-back, byte-past, word-past}
 use Rattle.formats.proofs.Table.{header-read}
 use Rattle.replays.specs.Replays.{Orders, then, orderThen, ordersFrom, replayed, replayBy, replayOf}
 use Rattle.replays.specs.OrderFile.{callBytes, orderBytes, orderFile, FileCall, FileCalls}
 use Rattle.replays.specs.Promises.{EveryListReplays}
-use Rattle.replays.specs.Table.{marked}
+use Rattle.replays.specs.Table.{marked, Holds, start, enter, step, crash}
 use Rattle.replays.proofs.Turns.{from-end, from-order}
 use Rattle.replays.proofs.Orders.{enter-at, step-at, crash-at}
 
@@ -78,3 +78,20 @@ unfolding replayOf
 every-list-replays n low high cs w budget h =
     ap (replayBy (orderFile n cs) budget) (header-read n (orderBytes cs) low high)
     ∙ ap (replayed (orderFile n cs) n) (read-back cs (77 ∷ 78 ∷ n ∷ []) budget w h)
+
+-- One call more at the end.
+pub last-call : (cs : List Call) (c : Call) → orderBytes (cs ++ c ∷ []) ≡ orderBytes cs ++ callBytes c
+unfolding orderBytes
+last-call [] c = append-nil (callBytes c)
+last-call (d ∷ cs) c = ap (λ (l : List ℕ). callBytes d ++ l) (last-call cs c) ∙ sym (append-assoc (callBytes d) (orderBytes cs) (callBytes c))
+
+one-longer : (at n k : ℕ) (cs : List Call) (c : Call) → at ≡ length (orderFile n cs) → length (callBytes c) ≡ k → at + k ≡ length (orderFile n (cs ++ c ∷ []))
+one-longer at n k cs c e f = omega (arith, ap length (last-call cs c), length-append (orderBytes cs) (callBytes c))
+
+-- A place that holds calls is where the file of these calls ends.
+pub held-length : {s : List ℕ} {at : ℕ} {cs : List Call} (n : ℕ) → Holds s at cs → at ≡ length (orderFile n cs)
+unfolding orderBytes
+held-length n (start z) = refl
+held-length {s} n (enter {at = at} {cs = cs} h r) = one-longer at n 7 cs (enters (byteAt s (at + 2)) (wordAt s (at + 3))) (held-length n h) refl
+held-length {s} n (step {at = at} {cs = cs} h r) = one-longer at n 3 cs (steps (byteAt s (at + 2))) (held-length n h) refl
+held-length {s} n (crash {at = at} {cs = cs} h r) = one-longer at n 3 cs (crashes (byteAt s (at + 2))) (held-length n h) refl

@@ -4,6 +4,7 @@ use mathlib.Core.Path.{_≡_, refl, sym, ap, _∙_, subst}
 use mathlib.Core.Logic.{_≢_}
 use mathlib.Core.List.{List}
 use native.Mathlib.Omega.{arith}
+use lib.ListN.{length}
 use Rattle.history.specs.Runs.{Call, runs}
 use Rattle.history.proofs.Theorems.{every-state-shaped, never-one-nor-seven, at-most-x-reach-x, three-properties, exact-steps, enough-steps, counts-of-runs}
 use Rattle.sets.specs.Lines.{firstThat}
@@ -11,13 +12,15 @@ use Rattle.formats.specs.declared.FileAnswer.{FileAnswer}
 use Rattle.formats.specs.declared.Header.{Header}
 use Rattle.formats.specs.Numbers.{fileNumber}
 use Rattle.formats.specs.Records.{headerOf}
-use Rattle.formats.specs.Table.{headerLines}
+use Rattle.formats.specs.Table.{headerLines, placeGiven}
 use Rattle.formats.proofs.Reading.{opened}
 use Rattle.formats.proofs.Table.{headerNumber, header-number}
-use Rattle.replays.specs.Replays.{noReplay, replayBy, replayOf, callsBy, callsOf, processesBy, processesOf}
-use Rattle.replays.specs.Promises.{Counted, EveryFileCounted, EveryFileHolds, NoneTaken, EveryRefusedHeader}
+use Rattle.replays.specs.Replays.{ordersFrom, noReplay, replayBy, replayOf, callsBy, callsOf, processesBy, processesOf}
+use Rattle.replays.specs.Table.{Holds}
+use Rattle.replays.specs.Promises.{Counted, EveryFileCounted, takenTo, EveryFileHolds, NoneTaken, EveryRefusedHeader}
 use Rattle.replays.specs.Promises.{DemandThree, EveryFileDemandThree, EveryFileAccesses}
-use Rattle.replays.proofs.WholeFile.{header-whole, whole-header, stop-place, held-calls, few-calls}
+use Rattle.replays.proofs.WholeFile.{header-whole, whole-header, stop-place, held-calls, few-calls, zero-read, whole-stop}
+use Rattle.replays.proofs.OrderFile.{held-length}
 use Rattle.world.specs.Calls.{counts, leaves}
 
 counted-by : (s : List ℕ) (budget : ℕ) (h : Header) → headerOf s ≡ h → Counted (processesBy h) (callsBy s budget h) budget (replayBy s budget h)
@@ -29,14 +32,22 @@ pub every-file-counted : EveryFileCounted
 unfolding replayOf
 every-file-counted s budget = counted-by s budget (headerOf s) refl
 
+-- the record that was not taken stands where the calls taken end
+stop-taken : (s : List ℕ) (budget n : ℕ) → headerOf s ≡ Header.Of n → ordersFrom budget s 3 .place ≡ takenTo s budget
+stop-taken s budget n e = held-length (processesOf s) (held-calls s budget n e)
+
 pub every-file-holds : EveryFileHolds
 every-file-holds s budget z =
     let h = whole-header s z in
+    let t = stop-taken s budget (h .0) (h .1) in
     record {
       processes = ap processesBy (h .1) ∙ opened s (h .0) (h .1) .byte;
-      calls = held-calls s budget (h .0) (h .1);
-      place = stop-place s budget (h .0) (h .1);
+      calls = subst (λ (at : ℕ). Holds s at (callsOf s budget)) t (held-calls s budget (h .0) (h .1));
+      place = stop-place s budget (h .0) (h .1) ∙ ap (placeGiven s (fileNumber (replayOf s budget .answer))) t;
     }
+
+pub whole-taken : (s : List ℕ) (budget : ℕ) → fileNumber (replayOf s budget .answer) ≡ 0 → takenTo s budget ≡ length s
+whole-taken s budget z = let h = zero-read s budget z in sym (stop-taken s budget (h .0) (h .1)) ∙ whole-stop s budget z
 
 -- A refused header.
 pub refused-header : (s : List ℕ) (budget : ℕ) (a : FileAnswer) → headerOf s ≡ Header.Fault a → replayOf s budget ≡ noReplay s a

@@ -1,7 +1,7 @@
 -- Replaying along a whole file: where it stops, with which calls, and each number exactly when it applies there.
 use Prim.Native.Nat.{ℕ, zero, suc, _+_, _-_, _≤_, _<_}
 use mathlib.Core.Bool.{Bool, true, false, cond}
-use mathlib.Core.Path.{_≡_, refl, sym, ap, ap₂, _∙_, subst, subst₂}
+use mathlib.Core.Path.{_≡_, refl, sym, ap, _∙_, subst, subst₂}
 use mathlib.Core.Logic.{inl, inr, _≢_, ⊎-elim}
 use mathlib.Core.List.{List, [], _∷_, _++_, append-assoc, append-nil}
 use native.Mathlib.Nat.{eq-or-lt-of-le}
@@ -21,7 +21,7 @@ use Rattle.formats.specs.Table.{headerLines, placeGiven}
 use Rattle.sets.specs.Lines.{when, firstThat}
 use Rattle.formats.proofs.Reading.{opened}
 use Rattle.formats.proofs.Table.{headerNumber, header-number, header-refused}
-use Rattle.replays.specs.Replays.{Orders, ended, then, orderThen, ordersFrom, replayBy, replayOf, callsBy, callsOf, stopBy, stopOf}
+use Rattle.replays.specs.Replays.{Orders, ended, then, orderThen, ordersFrom, replayBy, replayOf, callsBy, callsOf}
 use Rattle.replays.specs.Table.{orderLines, Holds, start, enter, step, crash, HoldsOne, Refusal, RefusedExactly, WholeExactly, WholePlace}
 use Rattle.replays.proofs.Turns.{width, whole-order, order-end, from-end, from-spent, from-order}
 use Rattle.replays.proofs.Orders.{orderNumber, order-number, enter-stands, step-stands, crash-stands, told}
@@ -231,7 +231,6 @@ record Answered (s : List ℕ) (budget : ℕ) (o : Orders) : Type 0 where
   answer : replayOf s budget .answer ≡ o .answer
   place : replayOf s budget .place ≡ placeOf (o .answer) (o .place) (length s)
   calls : callsOf s budget ≡ o .calls
-  stop : stopOf s budget ≡ o .place
 
 module _ (s : List ℕ) (budget : ℕ) where
   read-header : (n : ℕ) → headerOf s ≡ Header.Of n → Answered s budget (ordersFrom budget s 3)
@@ -241,7 +240,6 @@ module _ (s : List ℕ) (budget : ℕ) where
         answer = ap (λ (h : Header). replayBy s budget h .answer) e;
         place = ap (λ (h : Header). replayBy s budget h .place) e;
         calls = ap (callsBy s budget) e;
-        stop = ap (stopBy s budget) e;
       }
 
   faulty-header : (a : FileAnswer) → headerOf s ≡ Header.Fault a
@@ -249,18 +247,17 @@ module _ (s : List ℕ) (budget : ℕ) where
   unfolding replayOf
   faulty-header a e = (ap (λ (h : Header). replayBy s budget h .answer) e, ap (λ (h : Header). replayBy s budget h .place) e)
 
-  -- the place, by the number and the record where the reading ended
+  -- the place, by the number and the record that was not taken
   pub stop-place : (n : ℕ) → headerOf s ≡ Header.Of n
-      → replayOf s budget .place ≡ placeGiven s (fileNumber (replayOf s budget .answer)) (stopOf s budget)
+      → replayOf s budget .place ≡ placeGiven s (fileNumber (replayOf s budget .answer)) (ordersFrom budget s 3 .place)
   stop-place n e =
       let r = read-header n e in
-      r .place ∙ ap₂ (λ (a : FileAnswer) (at : ℕ). placeOf a at (length s)) (sym (r .answer)) (sym (r .stop))
+      r .place ∙ ap (λ (a : FileAnswer). placeOf a (ordersFrom budget s 3 .place) (length s)) (sym (r .answer))
 
 -- the calls made are those that the file holds up to that record
-pub held-calls : (s : List ℕ) (budget n : ℕ) → headerOf s ≡ Header.Of n → Holds s (stopOf s budget) (callsOf s budget)
+pub held-calls : (s : List ℕ) (budget n : ℕ) → headerOf s ≡ Header.Of n → Holds s (ordersFrom budget s 3 .place) (callsOf s budget)
 held-calls s budget n e =
-    let r = read-header s budget n e in
-    subst₂ (Holds s) (sym (r .stop)) (sym (r .calls)) (file-stops s budget n e .held)
+    subst (Holds s (ordersFrom budget s 3 .place)) (sym (read-header s budget n e .calls)) (file-stops s budget n e .held)
 
 pub few-calls : (s : List ℕ) (budget n : ℕ) → headerOf s ≡ Header.Of n → length (ordersFrom budget s 3 .calls) ≤ budget
 few-calls s budget n e = file-stops s budget n e .most
@@ -398,16 +395,16 @@ pub zero-read : (s : List ℕ) (budget : ℕ) → fileNumber (replayOf s budget 
 zero-read s budget z = read-zero s budget z (headerOf s) refl
 
 -- all of it was read
-pub whole-stop : (s : List ℕ) (budget : ℕ) → fileNumber (replayOf s budget .answer) ≡ 0 → stopOf s budget ≡ length s
+pub whole-stop : (s : List ℕ) (budget : ℕ) → fileNumber (replayOf s budget .answer) ≡ 0 → ordersFrom budget s 3 .place ≡ length s
 whole-stop s budget z =
     let h = zero-read s budget z in
     let r = read-header s budget (h .0) (h .1) in
-    r .stop ∙ whole-why s budget (ordersFrom budget s 3) (file-stops s budget (h .0) (h .1) .why) (ap fileNumber (sym (r .answer)) ∙ z)
+    whole-why s budget (ordersFrom budget s 3) (file-stops s budget (h .0) (h .1) .why) (ap fileNumber (sym (r .answer)) ∙ z)
 
 pub whole-place : WholePlace
 whole-place s budget z =
     let h = zero-read s budget z in
-    stop-place s budget (h .0) (h .1) ∙ ap (λ (x : ℕ). placeGiven s x (stopOf s budget)) z ∙ whole-stop s budget z
+    stop-place s budget (h .0) (h .1) ∙ ap (λ (x : ℕ). placeGiven s x (ordersFrom budget s 3 .place)) z ∙ whole-stop s budget z
 
 ends-with : (s : List ℕ) (budget : ℕ) (cs : List Call) → Comes s budget (length s) cs
     → (fileNumber (replayOf s budget .answer) ≡ 0) × (callsOf s budget ≡ cs)

@@ -31,7 +31,7 @@ use Rattle.findings.specs.declared.Finding.{Finding}
 use Rattle.findings.specs.Findings.{found, checkOf}
 use Rattle.findings.specs.Verdict.{judged, verdictOf}
 use Rattle.replays.specs.declared.Replayed.{Replayed}
-use Rattle.replays.specs.Replays.{replayed, replayOf, callsOf, stopOf, processesOf}
+use Rattle.replays.specs.Replays.{replayed, replayOf, callsOf, processesOf}
 use Rattle.replays.specs.Writes.{writeNumber, viewsOf, bytesOf, writeOf, bufferOf}
 use Rattle.replays.specs.OrderFile.{orderFile, FileCalls}
 use Rattle.replays.specs.Table.{Holds}
@@ -48,12 +48,16 @@ pub record Counted (n : ℕ) (cs : List Call) (budget : ℕ) (r : Replayed) : Ty
 abbrev pub EveryFileCounted : Type 0
 EveryFileCounted = (s : List ℕ) (budget : ℕ) → Counted (processesOf s) (callsOf s budget) budget (replayOf s budget)
 
--- Of a file whose header has no fault these are the calls that its bytes hold up to the record where the reading ended, on a machine of as many
--- processes as its third byte says. The place answered is that record's, or with 24 the file's length.
+-- where the header and the records of the calls taken end, and the record that was not taken begins
+abbrev pub takenTo : List ℕ → ℕ → ℕ
+takenTo s budget = length (orderFile (processesOf s) (callsOf s budget))
+
+-- Of a file whose header has no fault these are the calls that its bytes hold up to there, on a machine of as many processes as its third byte says. The
+-- place answered is there, or with 24 the file's length.
 pub record FromBytes (s : List ℕ) (budget : ℕ) : Type 0 where
   pub processes : processesOf s ≡ byteAt s 2
-  pub calls : Holds s (stopOf s budget) (callsOf s budget)
-  pub place : replayOf s budget .place ≡ placeGiven s (fileNumber (replayOf s budget .answer)) (stopOf s budget)
+  pub calls : Holds s (takenTo s budget) (callsOf s budget)
+  pub place : replayOf s budget .place ≡ placeGiven s (fileNumber (replayOf s budget .answer)) (takenTo s budget)
 
 abbrev pub EveryFileHolds : Type 0
 EveryFileHolds = (s : List ℕ) (budget : ℕ) → firstThat (headerLines s) ≡ 0 → FromBytes s budget
@@ -67,11 +71,11 @@ EveryListReplays = (n : ℕ) → 1 ≤ n → n ≤ 32 → (cs : List Call) → F
 abbrev pub OrderFileBytes : Type 0
 OrderFileBytes = (n : ℕ) → n ≤ 32 → (cs : List Call) → FileCalls cs → Bytes (orderFile n cs)
 
--- Every file is such a file up to the record where the reading ended, if its header has no fault: a call that is taken is one that a record can carry,
--- and its record has just the bytes that it is written with. What a function is handed as a slice is a file (`slice-file` of formats/proofs/Typed).
+-- Every file begins with such a file, of the calls taken, if its header has no fault: a call that is taken is one that a record can carry, and its
+-- record has just the bytes that it is written with. What a function is handed as a slice is a file (`slice-file` of formats/proofs/Typed).
 pub record OfCalls (s : List ℕ) (budget : ℕ) : Type 0 where
   pub carried : FileCalls (callsOf s budget)
-  pub bytes : take (stopOf s budget) s ≡ orderFile (processesOf s) (callsOf s budget)
+  pub bytes : take (takenTo s budget) s ≡ orderFile (processesOf s) (callsOf s budget)
 
 abbrev pub EveryFileOfCalls : Type 0
 EveryFileOfCalls = (f : File) (budget : ℕ) → firstThat (headerLines (f .content)) ≡ 0 → OfCalls (f .content) budget

@@ -72,14 +72,6 @@ callsBy s budget (Header.Fault a) = []
 abbrev pub callsOf : List ℕ → ℕ → List Call
 callsOf s budget = callsBy s budget (headerOf s)
 
--- the place where the reading ended
-abbrev pub stopBy : List ℕ → ℕ → Header → ℕ
-stopBy s budget (Header.Of n) = ordersFrom budget s 3 .place
-stopBy s budget (Header.Fault a) = 0
-
-abbrev pub stopOf : List ℕ → ℕ → ℕ
-stopOf s budget = stopBy s budget (headerOf s)
-
 abbrev pub processesBy : Header → ℕ
 processesBy (Header.Of n) = n
 processesBy (Header.Fault a) = 1
