@@ -14,7 +14,7 @@ use Rattle.sets.specs.Sets.{first, within}
 use Rattle.sets.proofs.Lines.{pass, says, first-is}
 use Rattle.formats.specs.Records.{byteAt, spells}
 use Rattle.formats.specs.Table.{headerLines, processAt, setAt, endAt, viewed, recordLines, Reached, Refusal}
-use Rattle.formats.specs.Cuts.{EndsInHeader, EndsInMark, ViewMark, NoneBefore, EndsInBody, header, fixed, values, CutsExactly, EveryCutExactly}
+use Rattle.formats.specs.Cuts.{EndsInHeader, EndsInMark, ViewMark, NoneBefore, EndsInBody, in-header, in-fixed, in-values, CutsExactly, EveryCutExactly}
 use Rattle.formats.proofs.Table.{mark-bytes}
 use Rattle.formats.proofs.WholeFile.{refused-exactly}
 
@@ -88,10 +88,10 @@ module _ (s : List ℕ) (at : ℕ) (before : List ℕ) where
       let marked : ViewMark s at before
       = record { comes = r; mark = not-true (spells "VW" (byteAt s at) (byteAt s (at + 1))) (other .off) } in
       ⊎-elim
-      (λ d. fixed marked (omega (arith, more)) (ltb-true (length s) (at + 7) d))
+      (λ d. in-fixed marked (omega (arith, more)) (ltb-true (length s) (at + 7) d))
       (λ d. let e = d .next in
       ⊎-elim
-      (λ h. values marked (ltb-false (length s) (at + 7) (d .off)) (none-before (e .off) (e .next .off) (e .next .next .off))
+      (λ h. in-values marked (ltb-false (length s) (at + 7) (d .off)) (none-before (e .off) (e .next .off) (e .next .next .off))
       (ltb-true (length s) (endAt s at) h))
       (λ h. absurd (omega (arith, h .next)))
       (e .next .next .next))
@@ -128,12 +128,12 @@ module _ (s : List ℕ) where
       (m .comes)
 
   body-if : (at : ℕ) → Refusal s 24 at → EndsInBody s
-  body-if at = ⊎-elim (λ p. header (header-ends s (p .1))) (λ p. record-ends s at (p .0) (p .1) (p .2) (p .3))
+  body-if at = ⊎-elim (λ p. in-header (header-ends s (p .1))) (λ p. record-ends s at (p .0) (p .1) (p .2) (p .3))
 
   if-body : EndsInBody s → (at : ℕ) × Refusal s 24 at
-  if-body (header h) = (0, inl (refl, ends-header s h))
-  if-body (fixed {at = at} {before = before} m l h) = (at, inr (before, m .comes, omega arith, fixed-ends s at before m l h))
-  if-body (values {at = at} {before = before} m l n h) = (at, inr (before, m .comes, omega arith, values-end s at before m l n h))
+  if-body (in-header h) = (0, inl (refl, ends-header s h))
+  if-body (in-fixed {at = at} {before = before} m l h) = (at, inr (before, m .comes, omega arith, fixed-ends s at before m l h))
+  if-body (in-values {at = at} {before = before} m l n h) = (at, inr (before, m .comes, omega arith, values-end s at before m l n h))
 
   cuts : CutsExactly s
   cuts =

@@ -19,7 +19,7 @@ use Rattle.formats.specs.Numbers.{fileNumber}
 use Rattle.formats.specs.Records.{byteAt, wordAt, spells}
 use Rattle.formats.specs.Table.{headerLines, processAt, setAt, endAt, viewed, recordLines, Reached, start, more}
 use Rattle.formats.specs.ViewFile.{readOf}
-use Rattle.formats.specs.Cuts.{EndsInMark, ViewMark, NoneBefore, EndsInBody, header, fixed, values}
+use Rattle.formats.specs.Cuts.{EndsInMark, ViewMark, NoneBefore, EndsInBody, in-header, in-fixed, in-values}
 use Rattle.formats.specs.Cuts.{Spans, opening, later, CutInside, EveryCutInside, EveryCutBetween}
 use Rattle.formats.proofs.Walked.{Walked, reached-walked}
 use Rattle.formats.proofs.WholeFile.{walked-read}
@@ -152,9 +152,9 @@ module _ (s : List ℕ) (k : ℕ) (h : k ≤ length s) where
     in-body : at + 2 ≤ k → EndsInBody (take k s)
     in-body i =
         ⊎-elim
-        (λ q. fixed (marked i) (omega (arith, short-length)) (omega (arith, ltb-true k (at + 7) q, short-length)))
+        (λ q. in-fixed (marked i) (omega (arith, short-length)) (omega (arith, ltb-true k (at + 7) q, short-length)))
         (λ q. let long = ltb-false k (at + 7) q in
-        values (marked i) (omega (arith, short-length)) (same-none r long (w .none)) (omega (arith, same-end at long, short-length)))
+        in-values (marked i) (omega (arith, short-length)) (same-none r long (w .none)) (omega (arith, same-end at long, short-length)))
         (either (ltb k (at + 7)))
 
 -- The numbers and the places.
@@ -171,7 +171,7 @@ inside s at end k (opening z) l m =
     let h : k ≤ length s = omega (arith, w .long) in
     record {
       one = λ e. one-left s 0 k h (record { comes = inl refl; ends = omega (arith, e, short-length s k h) });
-      more = λ e. more-left s 0 k h (header (record {
+      more = λ e. more-left s 0 k h (in-header (record {
         mark = ap₂ (spells "MN") (same-byte s k h 0 (omega arith)) (same-byte s k h 1 (omega arith)) ∙ w .mark;
         ends = omega (arith, short-length s k h);
       }));

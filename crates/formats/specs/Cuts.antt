@@ -37,9 +37,9 @@ pub record NoneBefore (s : List ℕ) (at : ℕ) (before : List ℕ) : Type 0 whe
 
 -- the file ends later in a record: in the header, in the five fixed bytes of a `VW`, or in its values
 pub data EndsInBody (s : List ℕ) : Type 0 where
-  header : EndsInHeader s → EndsInBody s
-  fixed : {at : ℕ} {before : List ℕ} → ViewMark s at before → at + 2 ≤ length s → length s < at + 7 → EndsInBody s
-  values : {at : ℕ} {before : List ℕ} → ViewMark s at before → at + 7 ≤ length s → NoneBefore s at before → length s < endAt s at → EndsInBody s
+  in-header : EndsInHeader s → EndsInBody s
+  in-fixed : {at : ℕ} {before : List ℕ} → ViewMark s at before → at + 2 ≤ length s → length s < at + 7 → EndsInBody s
+  in-values : {at : ℕ} {before : List ℕ} → ViewMark s at before → at + 7 ≤ length s → NoneBefore s at before → length s < endAt s at → EndsInBody s
 
 -- the two numbers, each with its place
 pub record CutsExactly (s : List ℕ) : Type 0 where

@@ -16,7 +16,7 @@ use Rattle.sets.proofs.Lines.{pass, says, first-is}
 use Rattle.history.specs.Runs.{Call}
 use Rattle.formats.proofs.Cuts.{header-one, one-header, header-ends, ends-header}
 use Rattle.replays.specs.Table.{marked, orderLines, Holds, Refusal}
-use Rattle.replays.specs.Cuts.{Comes, EndsInMark, EndsInBody, header, enter, short, CutsExactly, EveryCutExactly}
+use Rattle.replays.specs.Cuts.{Comes, EndsInMark, EndsInBody, in-header, in-enter, in-short, CutsExactly, EveryCutExactly}
 use Rattle.replays.proofs.Orders.{mark-other}
 use Rattle.replays.proofs.WholeFile.{refused-exactly}
 
@@ -72,8 +72,8 @@ module _ (s : List ℕ) (budget at : ℕ) where
       = λ b e. ap (λ (x : Bool). cond x (ltb (length s) (at + 7)) (ltb (length s) (at + 3))) (sym e)
       ∙ ⊎-elim (λ d. d) (λ d. absurd (omega (arith, d .next))) (other .next) in
       ⊎-elim
-      (λ e. enter c e (omega (arith, more)) (ltb-true (length s) (at + 7) (body true e)))
-      (λ e. short c (one-of (marked s at "EN") (marked s at "ST") (marked s at "CR") (other .off) e)
+      (λ e. in-enter c e (omega (arith, more)) (ltb-true (length s) (at + 7) (body true e)))
+      (λ e. in-short c (one-of (marked s at "EN") (marked s at "ST") (marked s at "CR") (other .off) e)
       (omega (arith, more, ltb-true (length s) (at + 3) (body false e))))
       (either (marked s at "EN"))
 
@@ -115,12 +115,12 @@ module _ (s : List ℕ) (budget : ℕ) where
       (m .comes)
 
   body-if : (at : ℕ) → Refusal s budget 24 at → EndsInBody s budget
-  body-if at = ⊎-elim (λ p. header (header-ends s (p .1))) (λ p. record-ends s budget at (p .0) (p .1) (p .2) (p .3) (p .4))
+  body-if at = ⊎-elim (λ p. in-header (header-ends s (p .1))) (λ p. record-ends s budget at (p .0) (p .1) (p .2) (p .3) (p .4))
 
   if-body : EndsInBody s budget → (at : ℕ) × Refusal s budget 24 at
-  if-body (header h) = (0, inl (refl, ends-header s h))
-  if-body (enter {at = at} c e l h) = (at, inr (c .calls, c .held, omega (arith, c .left), omega arith, enter-ends s budget at c e l h))
-  if-body (short {at = at} c e h) = (at, inr (c .calls, c .held, omega (arith, c .left), omega arith, short-ends s budget at c e h))
+  if-body (in-header h) = (0, inl (refl, ends-header s h))
+  if-body (in-enter {at = at} c e l h) = (at, inr (c .calls, c .held, omega (arith, c .left), omega arith, enter-ends s budget at c e l h))
+  if-body (in-short {at = at} c e h) = (at, inr (c .calls, c .held, omega (arith, c .left), omega arith, short-ends s budget at c e h))
 
   cuts : CutsExactly s budget
   cuts =

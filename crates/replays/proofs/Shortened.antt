@@ -12,15 +12,14 @@ use borrow.Author.Tests.{eqb-true, eqb-false, le-ltb, ne-eqb}
 use Rattle.sets.specs.Lines.{firstThat}
 use Rattle.sets.proofs.Laws.{either}
 use Rattle.sets.proofs.Lines.{pass, first-is}
-use Rattle.history.specs.Runs as runs
+use Rattle.history.specs.Runs.{Call, enters, steps, crashes}
 use Rattle.formats.specs.Numbers.{fileNumber}
 use Rattle.formats.specs.Records.{spells}
 use Rattle.formats.proofs.Shortened.{header-stands, stands-header, short-length, same-byte, same-word, same-header}
 use Rattle.formats.specs.Table.{headerLines}
 use Rattle.replays.specs.Replays.{replayOf, callsOf}
 use Rattle.replays.specs.Table.{marked, orderLines, Stands, Holds, start, enter, step, crash}
-use Rattle.replays.specs.Cuts as cuts
-use Rattle.replays.specs.Cuts.{Comes, EndsInMark, EndsInBody, Spans, CutInside, EveryCutInside, EveryCutBetween}
+use Rattle.replays.specs.Cuts.{Comes, EndsInMark, EndsInBody, in-header, in-enter, in-short, Spans, opening, entering, stepping, crashing, CutInside, EveryCutInside, EveryCutBetween}
 use Rattle.replays.proofs.Orders.{mark-other, enter-long, step-long, crash-long}
 use Rattle.replays.proofs.WholeFile.{calls-before, no-calls-of, whole-exactly}
 use Rattle.replays.proofs.Cuts.{linesAt, no-enter, one-record, enter-ends, short-ends, every-cut-exactly}
@@ -62,7 +61,7 @@ module _ (s : List ℕ) (at : ℕ) where
   crash-or e = ap₂ _||_ (mark-other s at "CR" "ST" e) e
 
 -- calls are held at no place past the end
-held-inside : {s : List ℕ} {at : ℕ} {cs : List runs.Call} → Holds s at cs → at ≤ length s
+held-inside : {s : List ℕ} {at : ℕ} {cs : List Call} → Holds s at cs → at ≤ length s
 held-inside {s} (start z) = header-stands s z .long
 held-inside {s} (enter {at = at} h r) = enter-long s at r
 held-inside {s} (step {at = at} h r) = step-long s at r
@@ -73,22 +72,22 @@ module _ (s : List ℕ) (k : ℕ) (h : k ≤ length s) where
   same-mark : (at : ℕ) (t : String) → at + 2 ≤ k → marked (take k s) at t ≡ marked s at t
   same-mark at t l = ap₂ (spells t) (same-byte s k h at (omega arith)) (same-byte s k h (at + 1) (omega arith))
 
-  same-held : {at : ℕ} {cs : List runs.Call} → Holds s at cs → at ≤ k → Holds (take k s) at cs
+  same-held : {at : ℕ} {cs : List Call} → Holds s at cs → at ≤ k → Holds (take k s) at cs
   same-held (start z) l = start (stands-header (take k s) (same-header s k h l (header-stands s z)))
   same-held (enter {at = at} {cs = cs} g r) l =
-      subst₂ (λ (p v : ℕ). Holds (take k s) (at + 7) (cs ++ runs.enters p v ∷ [])) (same-byte s k h (at + 2) (omega arith)) (same-word s k h (at + 3) (omega arith))
+      subst₂ (λ (p v : ℕ). Holds (take k s) (at + 7) (cs ++ enters p v ∷ [])) (same-byte s k h (at + 2) (omega arith)) (same-word s k h (at + 3) (omega arith))
       (enter (same-held g (omega arith)) (enter-if (take k s) at (same-mark at "EN" (omega arith) ∙ r .mark) (omega (arith, short-length s k h))))
   same-held (step {at = at} {cs = cs} g r) l =
       let e = same-mark at "ST" (omega arith) ∙ r .mark in
-      subst (λ (p : ℕ). Holds (take k s) (at + 3) (cs ++ runs.steps p ∷ [])) (same-byte s k h (at + 2) (omega arith))
+      subst (λ (p : ℕ). Holds (take k s) (at + 3) (cs ++ steps p ∷ [])) (same-byte s k h (at + 2) (omega arith))
       (step (same-held g (omega arith)) (short-if (take k s) at "ST" e (step-or (take k s) at e) (omega (arith, short-length s k h))))
   same-held (crash {at = at} {cs = cs} g r) l =
       let e = same-mark at "CR" (omega arith) ∙ r .mark in
-      subst (λ (p : ℕ). Holds (take k s) (at + 3) (cs ++ runs.crashes p ∷ [])) (same-byte s k h (at + 2) (omega arith))
+      subst (λ (p : ℕ). Holds (take k s) (at + 3) (cs ++ crashes p ∷ [])) (same-byte s k h (at + 2) (omega arith))
       (crash (same-held g (omega arith)) (short-if (take k s) at "CR" e (crash-or (take k s) at e) (omega (arith, short-length s k h))))
 
 -- What ends inside a record, and the calls before it.
-module _ (s : List ℕ) (budget : ℕ) (cs : List runs.Call) (at k : ℕ) (h : k ≤ length s) (l : at < k) where
+module _ (s : List ℕ) (budget : ℕ) (cs : List Call) (at k : ℕ) (h : k ≤ length s) (l : at < k) where
   one-left : EndsInMark (take k s) budget at → (fileNumber (replayOf (take k s) budget .answer) ≡ 11) × (replayOf (take k s) budget .place ≡ at)
   one-left e = every-cut-exactly (take k s) budget .eleven at .1 e
 
@@ -121,40 +120,40 @@ module _ (s : List ℕ) (budget : ℕ) (cs : List runs.Call) (at k : ℕ) (h : k
               (either (eqb k (at + 1)));
         }
 
-inside : (s : List ℕ) (budget : ℕ) (cs : List runs.Call) (at end k : ℕ) → Spans s cs at end → length cs < budget → at < k → k < end → CutInside s budget cs at k
-inside s budget cs at end k (cuts.opening z) b l m =
+inside : (s : List ℕ) (budget : ℕ) (cs : List Call) (at end k : ℕ) → Spans s cs at end → length cs < budget → at < k → k < end → CutInside s budget cs at k
+inside s budget cs at end k (opening z) b l m =
     let w = header-stands s z in
     let h : k ≤ length s = omega (arith, w .long) in
     let long = short-length s k h in
     let no : firstThat (headerLines (take k s)) ≢ 0 = λ e. omega (arith, header-stands (take k s) e .long, long) in
     record {
       one = λ e. one-left s budget [] 0 k h l (record { comes = inl refl; ends = omega (arith, e, long) });
-      more = λ e. more-left s budget [] 0 k h l (cuts.header (record {
+      more = λ e. more-left s budget [] 0 k h l (in-header (record {
         mark = ap₂ (spells "MN") (same-byte s k h 0 (omega arith)) (same-byte s k h 1 (omega arith)) ∙ w .mark;
         ends = omega (arith, long);
       }));
       calls = no-calls-of (take k s) budget no;
     }
-inside s budget cs at end k (cuts.enters g r) b l m =
+inside s budget cs at end k (entering g r) b l m =
     let h : k ≤ length s = omega (arith, enter-long s at r) in
     let long = short-length s k h in
     later s budget cs at k h l g b
     (λ c e. let q = same-mark s k h at "EN" e ∙ r .mark in (
-      cuts.enter c q (omega (arith, long)) (omega (arith, long)),
+      in-enter c q (omega (arith, long)) (omega (arith, long)),
       enter-ends (take k s) budget at c q (omega (arith, long)) (omega (arith, long)),
     ))
-inside s budget cs at end k (cuts.steps g r) b l m =
+inside s budget cs at end k (stepping g r) b l m =
     let h : k ≤ length s = omega (arith, step-long s at r) in
     let long = short-length s k h in
     later s budget cs at k h l g b
     (λ c e. let q = step-or (take k s) at (same-mark s k h at "ST" e ∙ r .mark) in
-    (cuts.short c q (omega (arith, long)), short-ends (take k s) budget at c q (omega (arith, long))))
-inside s budget cs at end k (cuts.crashes g r) b l m =
+    (in-short c q (omega (arith, long)), short-ends (take k s) budget at c q (omega (arith, long))))
+inside s budget cs at end k (crashing g r) b l m =
     let h : k ≤ length s = omega (arith, crash-long s at r) in
     let long = short-length s k h in
     later s budget cs at k h l g b
     (λ c e. let q = crash-or (take k s) at (same-mark s k h at "CR" e ∙ r .mark) in
-    (cuts.short c q (omega (arith, long)), short-ends (take k s) budget at c q (omega (arith, long))))
+    (in-short c q (omega (arith, long)), short-ends (take k s) budget at c q (omega (arith, long))))
 
 pub every-cut-inside : EveryCutInside
 every-cut-inside = inside

@@ -27,9 +27,9 @@ pub record EndsInMark (s : List ℕ) (budget at : ℕ) : Type 0 where
 
 -- the file ends later in a record: in the header, in an `EN`, or in an `ST` or `CR`, of whose body of one byte nothing is there
 pub data EndsInBody (s : List ℕ) (budget : ℕ) : Type 0 where
-  header : EndsInHeader s → EndsInBody s budget
-  enter : {at : ℕ} → Comes s budget at → marked s at "EN" ≡ true → at + 2 ≤ length s → length s < at + 7 → EndsInBody s budget
-  short : {at : ℕ} → Comes s budget at → (marked s at "ST" || marked s at "CR") ≡ true → length s ≡ at + 2 → EndsInBody s budget
+  in-header : EndsInHeader s → EndsInBody s budget
+  in-enter : {at : ℕ} → Comes s budget at → marked s at "EN" ≡ true → at + 2 ≤ length s → length s < at + 7 → EndsInBody s budget
+  in-short : {at : ℕ} → Comes s budget at → (marked s at "ST" || marked s at "CR") ≡ true → length s ≡ at + 2 → EndsInBody s budget
 
 -- the two numbers, each with its place
 pub record CutsExactly (s : List ℕ) (budget : ℕ) : Type 0 where
@@ -43,9 +43,9 @@ EveryCutExactly = (s : List ℕ) (budget : ℕ) → CutsExactly s budget
 -- So of every cut of a file. A record that stands whole spans from a place to the next, after the calls before it.
 pub data Spans (s : List ℕ) : List Call → ℕ → ℕ → Type 0 where
   opening : firstThat (headerLines s) ≡ 0 → Spans s [] 0 3
-  enters : {at : ℕ} {cs : List Call} → Holds s at cs → Stands s at "EN" → Spans s cs at (at + 7)
-  steps : {at : ℕ} {cs : List Call} → Holds s at cs → Stands s at "ST" → Spans s cs at (at + 3)
-  crashes : {at : ℕ} {cs : List Call} → Holds s at cs → Stands s at "CR" → Spans s cs at (at + 3)
+  entering : {at : ℕ} {cs : List Call} → Holds s at cs → Stands s at "EN" → Spans s cs at (at + 7)
+  stepping : {at : ℕ} {cs : List Call} → Holds s at cs → Stands s at "ST" → Spans s cs at (at + 3)
+  crashing : {at : ℕ} {cs : List Call} → Holds s at cs → Stands s at "CR" → Spans s cs at (at + 3)
 
 -- The file's first k bytes, which end inside that record: with one byte of it left 11, at the record; with more 24, where they end. The calls before it are
 -- made.
