@@ -19,7 +19,7 @@ use Rattle.formats.specs.Numbers.{fileNumber}
 use Rattle.formats.specs.Records.{byteAt, wordAt, spells}
 use Rattle.formats.specs.Table.{headerLines, processAt, setAt, endAt, viewed, recordLines, Reached, start, more}
 use Rattle.formats.specs.ViewFile.{readOf}
-use Rattle.formats.specs.Cuts.{EndsInMark, ViewMark, NoneBefore, EndsInBody, in-header, in-fixed, in-values}
+use Rattle.formats.specs.Cuts.{EndsInHeader, EndsInMark, ViewMark, NoneBefore, EndsInBody, in-header, in-fixed, in-values}
 use Rattle.formats.specs.Cuts.{Spans, opening, later, CutInside, EveryCutInside, EveryCutBetween}
 use Rattle.formats.proofs.Walked.{Walked, reached-walked}
 use Rattle.formats.proofs.WholeFile.{walked-read}
@@ -157,6 +157,15 @@ module _ (s : List ℕ) (k : ℕ) (h : k ≤ length s) where
         in-values (marked i) (omega (arith, short-length)) (same-none r long (w .none)) (omega (arith, same-end at long, short-length)))
         (either (ltb k (at + 7)))
 
+-- A header cut after its mark.
+pub cut-header : (s : List ℕ) → WholeHeader s → (k : ℕ) → k ≡ 2 → EndsInHeader (take k s)
+cut-header s w k e =
+    let h : k ≤ length s = omega (arith, w .long) in
+    record {
+      mark = ap₂ (spells "MN") (same-byte s k h 0 (omega arith)) (same-byte s k h 1 (omega arith)) ∙ w .mark;
+      ends = short-length s k h ∙ e;
+    }
+
 -- The numbers and the places.
 module _ (s : List ℕ) (at k : ℕ) (h : k ≤ length s) where
   one-left : EndsInMark (take k s) at → (fileNumber (readOf (take k s) .answer) ≡ 11) × (readOf (take k s) .place ≡ at)
@@ -171,10 +180,7 @@ inside s at end k (opening z) l m =
     let h : k ≤ length s = omega (arith, w .long) in
     record {
       one = λ e. one-left s 0 k h (record { comes = inl refl; ends = omega (arith, e, short-length s k h) });
-      more = λ e. more-left s 0 k h (in-header (record {
-        mark = ap₂ (spells "MN") (same-byte s k h 0 (omega arith)) (same-byte s k h 1 (omega arith)) ∙ w .mark;
-        ends = omega (arith, short-length s k h);
-      }));
+      more = λ e. more-left s 0 k h (in-header (cut-header s w k (omega arith)));
     }
 inside s at end k (later {before = before} r i z) l m =
     let w = view-stands s at before z in

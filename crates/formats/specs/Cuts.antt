@@ -49,7 +49,7 @@ pub record CutsExactly (s : List ℕ) : Type 0 where
 abbrev pub EveryCutExactly : Type 0
 EveryCutExactly = (s : List ℕ) → CutsExactly s
 
--- So of every cut of a file. A record of which no line applies spans from a place to the next, the first record or a later one.
+-- So of a file that is cut short. A record of which no line applies spans from a place to the next, the first record or a later one.
 pub data Spans (s : List ℕ) : ℕ → ℕ → Type 0 where
   opening : firstThat (headerLines s) ≡ 0 → Spans s 0 3
   later : {at : ℕ} {before : List ℕ} → Reached s at before → at < length s → firstThat (recordLines s at before) ≡ 0 → Spans s at (endAt s at)
@@ -62,6 +62,6 @@ pub record CutInside (s : List ℕ) (at k : ℕ) : Type 0 where
 abbrev pub EveryCutInside : Type 0
 EveryCutInside = (s : List ℕ) (at end k : ℕ) → Spans s at end → at < k → k < end → CutInside s at k
 
--- Cut before a later record a file is whole.
+-- Cut before a later record a file is read whole: it cannot be told that more stood there.
 abbrev pub EveryCutBetween : Type 0
 EveryCutBetween = (s : List ℕ) (at : ℕ) (before : List ℕ) → Reached s at before → fileNumber (readOf (take at s) .answer) ≡ 0

@@ -15,7 +15,7 @@ use Rattle.sets.proofs.Lines.{pass, first-is}
 use Rattle.history.specs.Runs.{Call, enters, steps, crashes}
 use Rattle.formats.specs.Numbers.{fileNumber}
 use Rattle.formats.specs.Records.{spells}
-use Rattle.formats.proofs.Shortened.{header-stands, stands-header, short-length, same-byte, same-word, same-header}
+use Rattle.formats.proofs.Shortened.{header-stands, stands-header, short-length, same-byte, same-word, same-header, cut-header}
 use Rattle.formats.specs.Table.{headerLines}
 use Rattle.replays.specs.Replays.{replayOf, callsOf}
 use Rattle.replays.specs.Table.{marked, orderLines, Stands, Holds, start, enter, step, crash}
@@ -128,10 +128,7 @@ inside s budget cs at end k (opening z) b l m =
     let no : firstThat (headerLines (take k s)) ≢ 0 = λ e. omega (arith, header-stands (take k s) e .long, long) in
     record {
       one = λ e. one-left s budget [] 0 k h l (record { comes = inl refl; ends = omega (arith, e, long) });
-      more = λ e. more-left s budget [] 0 k h l (in-header (record {
-        mark = ap₂ (spells "MN") (same-byte s k h 0 (omega arith)) (same-byte s k h 1 (omega arith)) ∙ w .mark;
-        ends = omega (arith, long);
-      }));
+      more = λ e. more-left s budget [] 0 k h l (in-header (cut-header s w k (omega arith)));
       calls = no-calls-of (take k s) budget no;
     }
 inside s budget cs at end k (entering g r) b l m =

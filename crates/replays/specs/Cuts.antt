@@ -40,7 +40,7 @@ pub record CutsExactly (s : List ℕ) (budget : ℕ) : Type 0 where
 abbrev pub EveryCutExactly : Type 0
 EveryCutExactly = (s : List ℕ) (budget : ℕ) → CutsExactly s budget
 
--- So of every cut of a file. A record that stands whole spans from a place to the next, after the calls before it.
+-- So of a file that is cut short. A record that stands whole spans from a place to the next, after the calls before it.
 pub data Spans (s : List ℕ) : List Call → ℕ → ℕ → Type 0 where
   opening : firstThat (headerLines s) ≡ 0 → Spans s [] 0 3
   entering : {at : ℕ} {cs : List Call} → Holds s at cs → Stands s at "EN" → Spans s cs at (at + 7)
@@ -58,7 +58,7 @@ abbrev pub EveryCutInside : Type 0
 EveryCutInside = (s : List ℕ) (budget : ℕ) (cs : List Call) (at end k : ℕ) → Spans s cs at end → length cs < budget → at < k → k < end
     → CutInside s budget cs at k
 
--- Cut before a later record a file is whole.
+-- Cut before a later record a file is read whole: it cannot be told that more stood there.
 abbrev pub EveryCutBetween : Type 0
 EveryCutBetween = (s : List ℕ) (budget : ℕ) (cs : List Call) (at : ℕ) → Holds s at cs → length cs ≤ budget
     → (fileNumber (replayOf (take at s) budget .answer) ≡ 0) × (callsOf (take at s) budget ≡ cs)
