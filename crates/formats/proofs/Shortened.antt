@@ -20,7 +20,7 @@ use Rattle.formats.specs.Records.{byteAt, wordAt, spells}
 use Rattle.formats.specs.Table.{headerLines, processAt, setAt, endAt, viewed, recordLines, Reached, start, more}
 use Rattle.formats.specs.ViewFile.{readOf}
 use Rattle.formats.specs.Cuts.{EndsInHeader, EndsInMark, ViewMark, NoneBefore, EndsInBody, in-header, in-fixed, in-values}
-use Rattle.formats.specs.Cuts.{Spans, opening, later, CutInside, EveryCutInside, EveryCutBetween}
+use Rattle.formats.specs.Cuts.{opening, later, EveryCutInside, EveryCutBetween}
 use Rattle.formats.proofs.Walked.{Walked, reached-walked}
 use Rattle.formats.proofs.WholeFile.{walked-read}
 use Rattle.formats.proofs.Cuts.{not-true, none-before, known, not-again, every-cut-exactly}
@@ -174,24 +174,21 @@ module _ (s : List ℕ) (at k : ℕ) (h : k ≤ length s) where
   more-left : EndsInBody (take k s) → (fileNumber (readOf (take k s) .answer) ≡ 24) × (readOf (take k s) .place ≡ k)
   more-left e = every-cut-exactly (take k s) .twenty-four k .1 (e, sym (short-length s k h))
 
-inside : (s : List ℕ) (at end k : ℕ) → Spans s at end → at < k → k < end → CutInside s at k
-inside s at end k (opening z) l m =
+pub every-cut-inside : EveryCutInside
+every-cut-inside s at end k (opening z) l m =
     let w = header-stands s z in
     let h : k ≤ length s = omega (arith, w .long) in
     record {
       one = λ e. one-left s 0 k h (record { comes = inl refl; ends = omega (arith, e, short-length s k h) });
       more = λ e. more-left s 0 k h (in-header (cut-header s w k (omega arith)));
     }
-inside s at end k (later {before = before} r i z) l m =
+every-cut-inside s at end k (later {before = before} r i z) l m =
     let w = view-stands s at before z in
     let h : k ≤ length s = omega (arith, w .long) in
     record {
       one = λ e. one-left s at k h (record { comes = inr (before, same-reached s k h r (omega arith)); ends = omega (arith, e, short-length s k h) });
       more = λ e. more-left s at k h (in-body s k h r w l m e);
     }
-
-pub every-cut-inside : EveryCutInside
-every-cut-inside = inside
 
 pub every-cut-between : EveryCutBetween
 every-cut-between s at before r =

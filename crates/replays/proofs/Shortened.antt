@@ -19,7 +19,7 @@ use Rattle.formats.proofs.Shortened.{header-stands, stands-header, short-length
 use Rattle.formats.specs.Table.{headerLines}
 use Rattle.replays.specs.Replays.{replayOf, callsOf}
 use Rattle.replays.specs.Table.{marked, orderLines, Stands, Holds, start, enter, step, crash}
-use Rattle.replays.specs.Cuts.{Comes, EndsInMark, EndsInBody, in-header, in-enter, in-short, Spans, opening, entering, stepping, crashing, CutInside, EveryCutInside, EveryCutBetween}
+use Rattle.replays.specs.Cuts.{Comes, EndsInMark, EndsInBody, in-header, in-enter, in-short, opening, entering, stepping, crashing, CutInside, EveryCutInside, EveryCutBetween}
 use Rattle.replays.proofs.Orders.{mark-other, enter-long, step-long, crash-long}
 use Rattle.replays.proofs.WholeFile.{calls-before, no-calls-of, whole-exactly}
 use Rattle.replays.proofs.Cuts.{linesAt, no-enter, one-record, enter-ends, short-ends, every-cut-exactly}
@@ -120,8 +120,8 @@ module _ (s : List ℕ) (budget : ℕ) (cs : List Call) (at k : ℕ) (h : k ≤ 
               (either (eqb k (at + 1)));
         }
 
-inside : (s : List ℕ) (budget : ℕ) (cs : List Call) (at end k : ℕ) → Spans s cs at end → length cs < budget → at < k → k < end → CutInside s budget cs at k
-inside s budget cs at end k (opening z) b l m =
+pub every-cut-inside : EveryCutInside
+every-cut-inside s budget cs at end k (opening z) b l m =
     let w = header-stands s z in
     let h : k ≤ length s = omega (arith, w .long) in
     let long = short-length s k h in
@@ -131,7 +131,7 @@ inside s budget cs at end k (opening z) b l m =
       more = λ e. more-left s budget [] 0 k h l (in-header (cut-header s w k (omega arith)));
       calls = no-calls-of (take k s) budget no;
     }
-inside s budget cs at end k (entering g r) b l m =
+every-cut-inside s budget cs at end k (entering g r) b l m =
     let h : k ≤ length s = omega (arith, enter-long s at r) in
     let long = short-length s k h in
     later s budget cs at k h l g b
@@ -139,21 +139,18 @@ inside s budget cs at end k (entering g r) b l m =
       in-enter c q (omega (arith, long)) (omega (arith, long)),
       enter-ends (take k s) budget at c q (omega (arith, long)) (omega (arith, long)),
     ))
-inside s budget cs at end k (stepping g r) b l m =
+every-cut-inside s budget cs at end k (stepping g r) b l m =
     let h : k ≤ length s = omega (arith, step-long s at r) in
     let long = short-length s k h in
     later s budget cs at k h l g b
     (λ c e. let q = step-or (take k s) at (same-mark s k h at "ST" e ∙ r .mark) in
     (in-short c q (omega (arith, long)), short-ends (take k s) budget at c q (omega (arith, long))))
-inside s budget cs at end k (crashing g r) b l m =
+every-cut-inside s budget cs at end k (crashing g r) b l m =
     let h : k ≤ length s = omega (arith, crash-long s at r) in
     let long = short-length s k h in
     later s budget cs at k h l g b
     (λ c e. let q = crash-or (take k s) at (same-mark s k h at "CR" e ∙ r .mark) in
     (in-short c q (omega (arith, long)), short-ends (take k s) budget at c q (omega (arith, long))))
-
-pub every-cut-inside : EveryCutInside
-every-cut-inside = inside
 
 pub every-cut-between : EveryCutBetween
 every-cut-between s budget cs at g b =
