@@ -1,4 +1,6 @@
 // Finishing alone (document 01, rule 8): the algorithm's own recursion.
+#![tactic(auto)]
+
 ghost use Rattle.std.specs.Prelude.{◌≡◌, ◌≤◌};
 ghost use Rattle.rules.specs.Calls.{finish_of};
 ghost use Rattle.rules.specs.Coded.Level.{gathered};
@@ -8,7 +10,7 @@ use moves::Mover;
 use rules::{Answer, Called, Machine, Process, Stage};
 
 // Where the recursion ends: finished at a level with a view, or at level 1 with a count other than 1.
-#[derive(Drop)]
+#[derive(Clone, Copy)]
 pub enum Landing {
     Lands { level: u32, view: u32 },
     Stuck,

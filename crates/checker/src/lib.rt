@@ -1,4 +1,6 @@
 // The checker of views, and the verdict of a view file (document 01, "Order of the checker's findings").
+#![tactic(auto)]
+
 ghost use Rattle.std.specs.Prelude.{◌≡◌, ◌≤◌, not, ◌&&◌, ◌++◌};
 ghost use Rattle.sets.specs.Members.{has};
 ghost use Rattle.text.specs.Parts.{joined};

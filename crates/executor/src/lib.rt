@@ -1,4 +1,6 @@
 // The slot of document 01: "The task executor owns one machine and lends it for the length of a slot".
+#![tactic(auto)]
+
 ghost use Rattle.std.specs.Prelude.{◌≡◌};
 ghost use Rattle.rules.specs.Calls.{step_of};
 

@@ -1,4 +1,6 @@
 // What both kinds of file share (document 01, "Files"): marks, little-endian numbers, records, and the numbers that a file call answers with.
+#![tactic(auto)]
+
 ghost use Rattle.std.specs.Prelude.{◌≡◌, ◌<◌};
 ghost use Rattle.formats.specs.Numbers.{file_number, place_of};
 ghost use Rattle.formats.specs.Records.{byte_at, word_at, is_mark, mark_of, mark_at, fits, header_by, header_of, order_by, order_at, view_by, view_at};

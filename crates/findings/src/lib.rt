@@ -1,7 +1,8 @@
 // What the checker of views answers. The findings themselves, in document 01's order, are the definitions in specs/.
+#![tactic(auto)]
 
 // What the checker finds; `finding_number` of specs/Findings gives document 01's number for each.
-#[derive(Drop)]
+#[derive(Clone, Copy)]
 pub enum Finding {
     Nothing,
     LacksItself,
@@ -11,7 +12,7 @@ pub enum Finding {
 }
 
 // A finding and the processes that it names, 0 where it names none.
-#[derive(Drop)]
+#[derive(Clone, Copy)]
 pub struct Found {
     pub finding: Finding,
     pub i: u32,
@@ -19,7 +20,7 @@ pub struct Found {
 }
 
 // The verdict of a file.
-#[derive(Drop)]
+#[derive(Clone, Copy)]
 pub struct FileVerdict {
     pub number: u32,
     pub place: usize,

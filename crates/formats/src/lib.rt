@@ -1,8 +1,9 @@
 // What both kinds of file hold and what a file call answers (document 01, "Files"). The formats themselves are the definitions in specs/.
+#![tactic(auto)]
 
 // What a file call answers; `file_number` of specs/Numbers gives the number for each. A record cut off by the end of the file breaks off in its mark, after
 // one byte, or in its body.
-#[derive(Drop)]
+#[derive(Clone, Copy)]
 pub enum FileAnswer {
     Whole,
     OutOfRange,
@@ -18,7 +19,7 @@ pub enum FileAnswer {
 }
 
 // What stands at a record's place: nothing, one byte, or a mark.
-#[derive(Drop)]
+#[derive(Clone, Copy)]
 pub enum Mark {
     End,
     Cut,
@@ -31,14 +32,14 @@ pub enum Mark {
 }
 
 // The first record of both kinds.
-#[derive(Drop)]
+#[derive(Clone, Copy)]
 pub enum Header {
     Of(u32),
     Fault(FileAnswer),
 }
 
 // A later record of an order file.
-#[derive(Drop)]
+#[derive(Clone, Copy)]
 pub enum Order {
     End,
     Fault(FileAnswer),
@@ -48,7 +49,7 @@ pub enum Order {
 }
 
 // A later record of a view file, up to its values.
-#[derive(Drop)]
+#[derive(Clone, Copy)]
 pub enum ViewRecord {
     End,
     Fault(FileAnswer),
@@ -56,7 +57,7 @@ pub enum ViewRecord {
 }
 
 // The views of a file.
-#[derive(Drop)]
+#[derive(Clone, Copy)]
 pub struct Views {
     pub n: u32,
     // the set of processes that have a view
@@ -68,7 +69,7 @@ pub struct Views {
 }
 
 // What reading a view file answers.
-#[derive(Drop)]
+#[derive(Clone, Copy)]
 pub struct ViewsRead {
     pub answer: FileAnswer,
     pub place: usize,

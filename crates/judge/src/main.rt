@@ -1,4 +1,6 @@
 // Runs the compiled reader and checker on document 01's P9 and P10 and some other view files, and prints each verdict: number, place, i, j.
+#![tactic(auto)]
+
 use findings::FileVerdict;
 use libc::STDOUT_FILENO;
 

@@ -1,4 +1,6 @@
 // The machine of document 01, one one-shot immediate snapshot for n processes, and the calls that an order makes, one register access at a time.
+#![tactic(auto)]
+
 ghost use Rattle.std.specs.Prelude.{◌≡◌};
 ghost use Rattle.rules.specs.Calls.{new_of, fresh, enter_of, crash_of, step_of};
 

@@ -1,4 +1,6 @@
 // What a call finds before it changes the machine: the process asked for, who moves, and what its step does.
+#![tactic(auto)]
+
 ghost use Rattle.std.specs.Prelude.{◌≡◌, ◌&&◌, ◌≤◌, leb};
 ghost use Rattle.rules.specs.Calls.{reading};
 ghost use Rattle.moves.specs.Coded.Asked.{asked_of, mover_of, mover_at};
@@ -16,7 +18,7 @@ fn in_range(p: u32, n: u32) -> bool
 }
 
 // What 1 and 2 leave, which come before all else: the record of process p, or a refusal.
-#[derive(Drop)]
+#[derive(Clone, Copy)]
 pub enum Asked {
     Record(Process),
     Refused(Answer),
@@ -43,7 +45,7 @@ pub fn find<'a>(
 }
 
 // What 4, 5 and 6 leave after them: process p as it runs, or a refusal.
-#[derive(Drop)]
+#[derive(Clone, Copy)]
 pub enum Mover {
     Running {
         level: u32,
@@ -92,7 +94,7 @@ fn as_it_runs(process: Process) -> Mover
 }
 
 // What a step does: it writes, or it goes to a stage by what it reads, or it is refused.
-#[derive(Drop)]
+#[derive(Clone, Copy)]
 pub enum Move {
     Write { level: u32, found: u32, value: u32 },
     Turn { stage: Stage, value: u32 },

@@ -1,4 +1,6 @@
 // The replay of an order file and the writer of a view file (document 01, "Files"), over the machine's calls.
+#![tactic(auto)]
+
 ghost use Rattle.std.specs.Prelude.{◌≡◌, true, ◌+◌, ◌*◌, ◌≤◌, eqb, length};
 ghost use Rattle.sets.specs.Members.{size};
 ghost use Rattle.rules.specs.Shape.{shaped};

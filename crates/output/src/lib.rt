@@ -1,1 +1,2 @@
 // Definitions and proofs alone: specs/ says what both programs print, and proofs/ proves it.
+#![tactic(auto)]

@@ -1,4 +1,6 @@
 // The view reader: number, place, n and the views of a view file (document 01, "Files").
+#![tactic(auto)]
+
 ghost use Rattle.std.specs.Prelude.{◌≡◌, ◌+◌, ◌≤◌, length};
 ghost use Rattle.formats.specs.Views.{none_of};
 ghost use Rattle.formats.specs.ViewFile.{tested_view, tested_at, values_read, with_view, refused_at, read_from, read_of};

@@ -1,5 +1,7 @@
 // Reads an order file from standard input, replays it and prints the run (document 01, "Printed output"). Where standard input cannot be read
 // it prints nothing.
+#![tactic(auto)]
+
 use streams::Input;
 
 fn main() {

@@ -1,9 +1,11 @@
 // What a replay and the view writer answer (document 01, "Files"). What they do is the definitions in specs/.
+#![tactic(auto)]
+
 use formats::FileAnswer;
 use rules::Machine;
 
 // What a replay answers.
-#[derive(Drop)]
+#[derive(Clone, Copy)]
 pub struct Replayed {
     pub answer: FileAnswer,
     pub place: usize,
@@ -14,7 +16,7 @@ pub struct Replayed {
 }
 
 // The counts of a replay under way.
-#[derive(Drop)]
+#[derive(Clone, Copy)]
 pub struct Counts {
     pub taken: u32,
     pub accesses: u32,
@@ -22,14 +24,14 @@ pub struct Counts {
 }
 
 // What the view writer answers; `write_number` of specs/Writes gives document 01's number for each.
-#[derive(Drop)]
+#[derive(Clone, Copy)]
 pub enum WriteAnswer {
     Done,
     NotShaped,
     TooShort,
 }
 
-#[derive(Drop)]
+#[derive(Clone, Copy)]
 pub struct Written {
     pub answer: WriteAnswer,
     pub bytes: usize,

@@ -1,4 +1,6 @@
 // The printed output of both programs (document 01, "Printed output"), stored as bytes in a lent buffer.
+#![tactic(auto)]
+
 ghost use Rattle.std.specs.Prelude.{◌≡◌, [], ◌∷◌, ◌+◌, ◌*◌, ◌≤◌, length, false};
 ghost use Rattle.text.specs.Decimal.{decimal};
 ghost use Rattle.output.specs.Lines.{field, fields, line, verdict_line, verdict_text, stage_word, comma, pair, pairs_from, view, sight_line};

@@ -1,5 +1,7 @@
 // Order files replayed by the compiled code: document 01's examples of budget 0, and the printed run, whose views are written and then judged. It
 // prints each replay's line, what the view writer answers and the verdict. The gate compares that with the stored output.
+#![tactic(auto)]
+
 use findings::FileVerdict;
 use libc::STDOUT_FILENO;
 use replays::{Replayed, WriteAnswer, Written};

@@ -1,7 +1,8 @@
 // The state of the machine of document 01, and what its calls answer. The rules themselves are the definitions in specs/.
+#![tactic(auto)]
 
 // Where a process stands, with what that stage needs (rule 2).
-#[derive(Drop)]
+#[derive(Clone, Copy)]
 pub enum Stage {
     Absent,
     Running { level: u32, made: u32, found: u32 },
@@ -9,13 +10,13 @@ pub enum Stage {
     Crashed { level: u32, made: u32, found: u32 },
 }
 
-#[derive(Drop)]
+#[derive(Clone, Copy)]
 pub struct Process {
     pub stage: Stage,
     pub value: u32,
 }
 
-#[derive(Drop)]
+#[derive(Clone, Copy)]
 pub struct Machine {
     pub n: u32,
     // row x at x - 1: the set of processes whose register there is filled
@@ -26,7 +27,7 @@ pub struct Machine {
 }
 
 // What a call answers; `number_of` of specs/Calls gives document 01's number for each.
-#[derive(Drop)]
+#[derive(Clone, Copy)]
 pub enum Answer {
     Done,
     NotShaped,
@@ -39,14 +40,14 @@ pub enum Answer {
     OutOfRange,
 }
 
-#[derive(Drop)]
+#[derive(Clone, Copy)]
 pub struct Called {
     pub machine: Machine,
     pub answer: Answer,
 }
 
 // A stage by name alone.
-#[derive(Drop)]
+#[derive(Clone, Copy)]
 pub enum Standing {
     Absent,
     Running,
@@ -55,7 +56,7 @@ pub enum Standing {
 }
 
 // What a look answers. The view is a set, with the value of its process i at i - 1; 0 elsewhere, and all 0 where there is no view.
-#[derive(Drop)]
+#[derive(Clone, Copy)]
 pub struct Sight {
     pub answer: Answer,
     pub standing: Standing,

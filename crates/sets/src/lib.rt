@@ -1,5 +1,7 @@
 // A set of processes in one 32-bit number, bit i - 1 for process i: what a process holds of the registers that it found filled, and
 // what a view file gives for a view.
+#![tactic(auto)]
+
 ghost use Rattle.std.specs.Prelude.{◌≡◌};
 ghost use Rattle.sets.specs.Members.{has, size};
 ghost use Rattle.sets.specs.Sets.{plus, first, within, upwards};

@@ -1,4 +1,6 @@
 // The shape test of document 01 ("A state is well shaped if .."), over the parts of a machine, so that no register is copied.
+#![tactic(auto)]
+
 ghost use Rattle.std.specs.Prelude.{◌≡◌, cond, ◌&&◌, ℕ, ◌+◌, ◌-◌, ◌≤◌, ◌<◌, get_or, leb};
 ghost use Rattle.sets.specs.Sets.{first, within};
 ghost use Rattle.rules.specs.Shape.{goes, ends, shaped_stage, shaped_process, shaped};
@@ -8,7 +10,7 @@ ghost use Rattle.shape.specs.Coded.Columns.{lowest_at, lowest_row, LowestRows, c
 use rules::{Process, Stage};
 
 // What one pass over the records gives. The bool is last, so that the arrays stay aligned.
-#[derive(Drop)]
+#[derive(Clone, Copy)]
 struct Columns {
     // For process i, at i - 1: the lowest row that it has written, 33 if none.
     pub low: [u32; 32],

@@ -1,6 +1,8 @@
 // Stores states on both sides of each clause of "A state is well shaped if ..", number by number, makes every call on them and prints what they
 // answer: 1 to the first of a pair, another number to its neighbour. The pairs are those of specs/Shapes of rules, in that order. The gate compares
 // what is printed with the stored output. A line of the script is fourteen bytes, `X AA BB C D E` and a line end: a letter and five numbers.
+#![tactic(auto)]
+
 ghost use Rattle.std.specs.Prelude.{◌<◌};
 
 use libc::{STDIN_FILENO, STDOUT_FILENO};

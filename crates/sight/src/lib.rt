@@ -1,4 +1,6 @@
 // The look at a process: what its record says, its accesses, and its view.
+#![tactic(auto)]
+
 ghost use Rattle.std.specs.Prelude.{◌≡◌, cond, ◌+◌, ◌-◌, ◌*◌, ◌≤◌};
 ghost use Rattle.sets.specs.Members.{has};
 ghost use Rattle.rules.specs.Calls.{look_of, blindly, row_values};

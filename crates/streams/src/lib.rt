@@ -1,13 +1,15 @@
 // Standard input read to its end, and a text written whole to standard output, over C's read and write. A call that a signal interrupts is made
 // again; a failure is told on standard error, where a failed read is no end of the input. Both loops count their turns, since nothing says that
 // interruptions end; no run uses so many up.
+#![tactic(auto)]
+
 ghost use Rattle.std.specs.Prelude.{◌≡◌, ◌≤◌, length};
 ghost use Rattle.streams.specs.Outcomes.{outcome_of, Within};
 
 use libc::{STDIN_FILENO, STDOUT_FILENO};
 
 // What one call of read or write came to.
-#[derive(Drop)]
+#[derive(Clone, Copy)]
 pub enum Outcome {
     Moved,
     Nothing,
@@ -16,7 +18,7 @@ pub enum Outcome {
 }
 
 // What came from standard input: so many bytes, which stand at the start of the buffer; or it could not be read.
-#[derive(Drop)]
+#[derive(Clone, Copy)]
 pub enum Input {
     Bytes(usize),
     Unread,

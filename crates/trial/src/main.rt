@@ -1,5 +1,7 @@
 // Runs a script of calls on the compiled machine and prints what they answer: document 01's machine examples, and its printed run with each step in a
 // slot of the executor. The gate compares that with the stored output. A line of the script is seven bytes, `X NN V` and a line end: a letter, a process number (or n), a value of one digit.
+#![tactic(auto)]
+
 ghost use Rattle.std.specs.Prelude.{◌<◌};
 
 use libc::STDOUT_FILENO;

@@ -1,5 +1,7 @@
 // Reads a view file from standard input and prints its verdict (document 01, "Printed output"). Where standard input cannot be read
 // it prints nothing.
+#![tactic(auto)]
+
 use streams::Input;
 
 fn main() {

@@ -6,25 +6,18 @@ use lib.Bits.{bit_or}
 use borrow.Author.Rules.{rules}
 use Rattle.sets.proofs.Laws.{plus_unknown, unknown_below, unknown_above, true_known}
 use Rattle.sets.proofs.Bits.{plus_or, one_shifted}
-use Rattle.sets.proofs.plus.Statement.{statement}
-use Rattle.sets.proofs.plus.Tie as tie
+use Rattle.sets.proofs.plus.Goals as goal
 
-returns : tie.Need-returns
-returns c = sym (plus_unknown c.before.args.s c.before.args.i (unknown_below c.before.args.i (omega arith)))
+pub returns-then-i-lt1 : goal.returns-then-i-lt1
+returns-then-i-lt1 c = sym (plus_unknown c.args.s c.args.i (unknown_below c.args.i (omega arith)))
 
-returns-2 : tie.Need-returns-2
-returns-2 c =
-    let args = c.before.before.args in
+pub returns-then-i-gt32 : goal.returns-then-i-gt32
+returns-then-i-gt32 c =
+    let args = c.args in
     sym (plus_unknown args.s args.i (unknown_above args.i (omega arith)))
 
-shl-result : tie.Need-overflow-shl-result
-shl-result c = search rules
-
-returns-3 : tie.Need-returns-3
-returns-3 c =
-    let args = c.before.before.args in
+pub returns : goal.returns
+returns c =
+    let args = c.args in
     ap (bit_or args.s) (one_shifted (args.i - 1) 32 (omega arith))
     ∙ sym (plus_or args.s args.i (true_known args.i (omega arith) (omega arith)))
-
-pub plus_spec : {M : Type 1} → statement M
-plus_spec = tie.close (tie.spec returns returns-2 shl-result returns-3)
