@@ -1,10 +1,10 @@
 -- What the declared types say of a machine that a function is handed: its arrays' lengths, and that its sets and values are 32-bit numbers.
-use mathlib.Core.Path.{◌≡◌, sym, ◌∙◌}
-use mathlib.Core.List.{List, [], ◌∷◌, map}
+use mathlib.Core.Path.{◌≡◌}
+use mathlib.Core.List.{List, [], ◌∷◌}
 use Prim.Native.Nat.{ℕ, zero, suc, ◌-◌, ◌^◌, ◌<◌}
 use native.Mathlib.Omega.{arith}
 use lib.Dec.{lit<}
-use lib.ListN.{length, get_or, length-map}
+use lib.ListN.{length, get_or}
 use mir.Syntax.{w32}
 use mir.Val.{Val}
 use denote.Array.{each}
@@ -12,7 +12,7 @@ use denote.Shadow.{shadow}
 use denote.Laws.{Is}
 use denote.Struct.Declared.{row}
 use denote.Struct.Laws.{val}
-use borrow.Author.Rules.{elem_fits_field, length_unmapped}
+use borrow.Author.Rules.{elem_Fits}
 use Rattle.rules.specs.declared.Machine.{Machine}
 use Rattle.rules.specs.declared.Stage.{Stage}
 use Rattle.rules.specs.declared.Stage.TheVariants.{Absent, Running, Finished, Crashed}
@@ -30,25 +30,25 @@ abbrev pub IsMachine : Machine → Type 0
 IsMachine m = Is (row the_type) m (val the_type the_laws m ∷ [])
 
 pub filled_fits : (m : Machine) → IsMachine m → (k : ℕ) → get_or m.filled k 0 < 2 ^ 32
-filled_fits m g k = (elem_fits_field w32 w32 m.filled g.1.1.1.0.0 k g.1.1.1.0.1.1 tt).fits
+filled_fits m g k = (elem_Fits w32 w32 m.filled g.1.1.1.0.0 k g.1.1.1.0.1.1 tt).fits
 
 pub rows_long : (m : Machine) → IsMachine m → length m.filled ≡ 32
-rows_long m g = length_unmapped ℕ m.filled 32 g.1.1.1.0.1.0.1
+rows_long m g = g.1.1.1.0.1.0.1
 
 pub cells_long : (m : Machine) → IsMachine m → length m.values ≡ 1024
-cells_long m g = length_unmapped ℕ m.values 1024 g.1.1.1.1.0.1.0.1
+cells_long m g = g.1.1.1.1.0.1.0.1
 
 pub slots_long : (m : Machine) → IsMachine m → length m.processes ≡ 32
-slots_long m g = sym (length-map m.processes _) ∙ g.1.1.1.1.1.0.1.0.1
+slots_long m g = g.1.1.1.1.1.0.1.0.1
 
 -- what a process found is a 32-bit set
-stage_fits : (s : Stage) (vs : List Val) → Is (Stage-row.the_field).row ((Stage-row.the_field).into s) vs → found_of s < 2 ^ 32
+stage_fits : (s : Stage) (vs : List Val) → Is Stage-row.the_row s vs → found_of s < 2 ^ 32
 stage_fits Absent vs g = lit< tt
 stage_fits (Running x k f) vs g = omega arith
 stage_fits (Finished x w) vs g = omega arith
 stage_fits (Crashed x k f) vs g = omega arith
 
-found-fits : (ps : List Process) (us : List Val) → shadow (each (Process-row.the_field).row.Denot (Process-row.the_field).row.own_val (map (Process-row.the_field).into ps) us)
+found-fits : (ps : List Process) (us : List Val) → shadow (each (Process-row.the_row).Denot (Process-row.the_row).own_val ps us)
     → (k : ℕ) → found_of (get_or ps k nobody).stage < 2 ^ 32
 found-fits [] us g k = lit< tt
 found-fits (P ∷ ps) [] g k = absurd g
@@ -65,7 +65,7 @@ machine_held m g = record {
 }
 
 -- so is what it deposited
-value_fits : (ps : List Process) (us : List Val) → shadow (each (Process-row.the_field).row.Denot (Process-row.the_field).row.own_val (map (Process-row.the_field).into ps) us)
+value_fits : (ps : List Process) (us : List Val) → shadow (each (Process-row.the_row).Denot (Process-row.the_row).own_val ps us)
     → (k : ℕ) → (get_or ps k nobody).value < 2 ^ 32
 value_fits [] us g k = lit< tt
 value_fits (P ∷ ps) [] g k = absurd g

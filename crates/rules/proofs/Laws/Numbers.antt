@@ -93,10 +93,12 @@ exactly_when a ls w e =
     }
 
 below_all : (k : ℕ) (ls : List Line) → below k ls ≡ true → (l : Line) → Memᴰ l ls → k < l.number
+below_all k [] b l h = elim h [ ]
 below_all k (x ∷ xs) b l (Memᴰ.head e) = subst (λ y. k < y.number) (sym e) (ltb-true k x.number (and_first (ltb k x.number) _ b))
 below_all k (x ∷ xs) b l (Memᴰ.tail h) = below_all k xs (and_second (ltb k x.number) _ b) l h
 
 lowest_applies : (ls : List Line) → ascending ls ≡ true → (l : Line) → Memᴰ l ls → l.applies ≡ true → first_that ls ≤ l.number
+lowest_applies [] up l h a = elim h [ ]
 lowest_applies (x ∷ xs) up l h a =
     go x.applies refl (Memᴰ.cases_cons h) (λ h. lowest_applies xs (and_second (below x.number xs) _ up) l h a)
   where

@@ -7,7 +7,7 @@ use Prim.Native.Nat.{ℕ, zero, suc, ◌+◌, ◌-◌, ◌*◌, ◌^◌, ◌≤�
 use native.Mathlib.Omega.{arith}
 use lib.Dec.{leb, ltb, eqb, lit≤}
 use lib.ListN.{length, get_or, drop}
-use borrow.Author.Tests.{ltb-true, eqb-true, eq-eqb, not_true, lt-leb}
+use borrow.Author.Tests.{ltb-true, eqb-true, eq-eqb, not-true, lt-leb}
 use Rattle.sets.specs.Members.{known, has, size}
 use Rattle.sets.specs.Sets.{every, same}
 use Rattle.sets.proofs.Laws.{every_true, true_every, known_true, has_zero}
@@ -165,6 +165,7 @@ all_from f d h (suc k) (a ∷ rest) e zero le = absurd (omega arith)
 all_from f d h (suc k) (a ∷ rest) e (suc j) le = all_from f d h k rest e j (omega arith)
 
 all-mem {ℓ} : {A : Type ℓ} (f : A → Bool) (l : List A) → all f l ≡ true → (a : A) → Memᴰ a l → f a ≡ true
+all-mem f [] e a h = elim h [ ]
 all-mem f (b ∷ l) e a (Memᴰ.head q) = ap f q ∙ and_first (f b) (all f l) e
 all-mem f (b ∷ l) e a (Memᴰ.tail h) = all-mem f l (and_second (f b) (all f l) e) a h
 
@@ -250,7 +251,7 @@ pair-tested e t =
     }
   where
     bad : seems e.broken ≡ false
-    bad = not_true (seems e.broken) (and_first (not (seems e.broken)) _ t)
+    bad = not-true (seems e.broken) (and_first (not (seems e.broken)) _ t)
 
     good : (surely e.neighbour && fits e.neighbour) ≡ true
     good = and_second (not (seems e.broken)) _ t
