@@ -55,7 +55,7 @@ for p, t in texts.items():
             own[name] = p
             if "specs" in p.parts and ("abbrev" in mods or "unfoldable" in mods):
                 defs.add(snake(name))
-        elif kind and "specs" in p.parts:
+        else:
             statements.add(snake(name[0].lower() + name[1:]))
 for p in sources:
     defs.update(re.findall(r"\bfn (\w+)", p.read_text(encoding="utf-8")))

@@ -6,7 +6,7 @@ use Rattle.sets.specs.Members.{has, count, size}
 use Rattle.sets.specs.Sets.{plus, every, within}
 use Rattle.rules.specs.Examples.{table as machineTable, passes as runPasses, all_pass as allRunsPass}
 use Rattle.rules.specs.Examples as Runs
-use Rattle.rules.proofs.Laws.Examples.{every-example-passes}
+use Rattle.rules.proofs.Laws.Examples.{every_example_passes}
 use Rattle.text.specs.Parts.{joined}
 use Rattle.findings.specs.Findings.{agree, inside, breaks, of_one, of_pair, findings, check_of}
 use Rattle.examples.specs.Table.{Example, runs, with_pairs, with_views, all_pass, p9, p10, EveryExample}
@@ -25,5 +25,5 @@ views_pass : all_pass (p9 ∷ p10 ∷ []) ≡ true
 unfolding all_pass with_pairs with_views check_of findings of_one of_pair breaks agree inside joined has plus every count within size
 views_pass = refl
 
-pub every-example : EveryExample
-every-example = runs_then machineTable (p9 ∷ p10 ∷ []) ∙ ap₂ ◌&&◌ every-example-passes views_pass
+pub every_example : EveryExample
+every_example = runs_then machineTable (p9 ∷ p10 ∷ []) ∙ ap₂ ◌&&◌ every_example_passes views_pass

@@ -9,10 +9,10 @@ use Rattle.findings.specs.Findings.{agree, inside, breaks, of_one, of_pair, find
 use Rattle.findings.specs.Verdict.{verdict_of}
 use Rattle.findings.specs.Examples.{hold, ExamplesHold, P9Cuts, AllThreeFound, NotCompared, P9PassesByNeighbours}
 
-pub examples-hold : ExamplesHold
+pub examples_hold : ExamplesHold
 unfolding hold verdict_of check_of findings of_one of_pair breaks agree inside joined read_of read_from header_of view_at mark_at mark_of tested_at
     values_read has plus first every count within size
-examples-hold = refl
+examples_hold = refl
 
 pub p9_cuts : P9Cuts
 unfolding verdict_of check_of findings of_one of_pair breaks agree inside joined read_of read_from header_of view_at mark_at mark_of tested_at
@@ -29,7 +29,7 @@ unfolding check_of findings of_one of_pair breaks agree inside joined read_of re
     values_read has plus first every count within size
 not_compared = (refl, refl)
 
-pub p9-passes_by_neighbours : P9PassesByNeighbours
+pub p9_passes_by_neighbours : P9PassesByNeighbours
 unfolding of_one of_pair breaks agree inside joined read_of read_from header_of view_at mark_at mark_of tested_at
     values_read has plus first every count within size
-p9-passes_by_neighbours = refl
+p9_passes_by_neighbours = refl

@@ -24,7 +24,7 @@ use Rattle.findings.specs.Verdict.{judged, unread, verdict_by, verdict_of}
 use Rattle.findings.specs.Properties.{Obeys}
 use Rattle.findings.specs.Statements.{RefusedFirst, ReadThenChecked, VerdictNumbers, EveryVerdictNumbered, EveryCutJudged, YesExactly}
 use Rattle.formats.proofs.WholeFile.{read_place}
-use Rattle.formats.proofs.Cuts.{every-cut_exactly}
+use Rattle.formats.proofs.Cuts.{every_cut_exactly}
 use Rattle.findings.proofs.First.{none_first}
 use Rattle.findings.proofs.Accepts.{accepts_exactly}
 use Rattle.findings.proofs.FirstBreak.{real_findings, yes_is_no_finding}
@@ -53,11 +53,11 @@ unfolding verdict_of
 verdict_if s b e =
     ap (λ (c : Bool). cond c (judged (read_of s).place (check_of (read_of s).views)) (unread (file_number (read_of s).answer) (read_of s).place)) e
 
-pub refused-first : RefusedFirst
-refused-first s e = verdict_if s false e
+pub refused_first : RefusedFirst
+refused_first s e = verdict_if s false e
 
-pub read-then_checked : ReadThenChecked
-read-then_checked s e = verdict_if s true e ∙ ap (λ (at : ℕ). judged at (check_of (read_of s).views)) (read_place s e)
+pub read_then_checked : ReadThenChecked
+read_then_checked s e = verdict_if s true e ∙ ap (λ (at : ℕ). judged at (check_of (read_of s).views)) (read_place s e)
 
 -- a finding's number is not 0
 no_number : (k : Finding) → finding_number k ≡ 0 → is_finding k ≡ false
@@ -72,16 +72,16 @@ unfolding check_of
 yes_by s z =
     ⊎_elim
     (λ e. let v : Views = (read_of s).views in
-    let k : finding_number (check_of v).finding ≡ 0 = sym (ap (λ (x : FileVerdict). x.number) (read-then_checked s e)) ∙ z in
+    let k : finding_number (check_of v).finding ≡ 0 = sym (ap (λ (x : FileVerdict). x.number) (read_then_checked s e)) ∙ z in
     (e, (accepts_exactly v).0 (none_first (findings v) (real_findings v) (no_number (check_of v).finding k))))
-    (λ e. absurd (eqb-false (file_number (read_of s).answer) 0 e (sym (ap (λ (x : FileVerdict). x.number) (refused-first s e)) ∙ z)))
+    (λ e. absurd (eqb-false (file_number (read_of s).answer) 0 e (sym (ap (λ (x : FileVerdict). x.number) (refused_first s e)) ∙ z)))
     (either (is_whole (read_of s).answer))
 
 pub yes_exactly : YesExactly
 yes_exactly s = (
   yes_by s,
   λ p. let v : Views = (read_of s).views in
-      ap (λ (x : FileVerdict). x.number) (read-then_checked s p.0)
+      ap (λ (x : FileVerdict). x.number) (read_then_checked s p.0)
       ∙ ap (λ (f : Found). finding_number f.finding) ((yes_is_no_finding v).1 ((accepts_exactly v).1 p.1)),
 )
 
@@ -131,11 +131,11 @@ module _ (s : List ℕ) where
 
   of-read : is_whole (read_of s).answer ≡ true → (verdict_of s).number ≡ finding_number found
   unfolding found
-  of-read e = ap (λ (x : FileVerdict). x.number) (read-then_checked s e)
+  of-read e = ap (λ (x : FileVerdict). x.number) (read_then_checked s e)
 
   of-refused : is_whole (read_of s).answer ≡ false → (verdict_of s).number ≡ told
   unfolding told
-  of-refused e = ap (λ (x : FileVerdict). x.number) (refused-first s e)
+  of-refused e = ap (λ (x : FileVerdict). x.number) (refused_first s e)
 
   finds : (k : Finding) → k ≢ Nothing → (verdict_of s).number ≡ finding_number k
       → (is_whole (read_of s).answer ≡ true) × ((check_of (read_of s).views).finding ≡ k)
@@ -167,13 +167,13 @@ module _ (s : List ℕ) where
         refusal = λ x n l. (refuses x n l, λ e. of-refused (ne_eqb told 0 (λ z. n (sym e ∙ z))) ∙ e);
       }
 
-pub every-verdict_numbered : EveryVerdictNumbered
-every-verdict_numbered = verdict_numbers
+pub every_verdict_numbered : EveryVerdictNumbered
+every_verdict_numbered = verdict_numbers
 
 -- a file that the reader refuses with a number, and the place
 module _ (s : List ℕ) (x : ℕ) (n : x ≢ 0) (o : (x < 20) ⊎ (23 < x)) (place : ℕ) where
   same_place : file_number (read_of s).answer ≡ x → (verdict_of s).place ≡ (read_of s).place
-  same_place e = ap (λ (v : FileVerdict). v.place) (refused-first s (ne_eqb (file_number (read_of s).answer) 0 (λ z. n (sym e ∙ z))))
+  same_place e = ap (λ (v : FileVerdict). v.place) (refused_first s (ne_eqb (file_number (read_of s).answer) 0 (λ z. n (sym e ∙ z))))
 
   as_read : (((verdict_of s).number ≡ x) × ((verdict_of s).place ≡ place)) ↔ ((file_number (read_of s).answer ≡ x) × ((read_of s).place ≡ place))
   as_read =
@@ -182,9 +182,9 @@ module _ (s : List ℕ) (x : ℕ) (n : x ≢ 0) (o : (x < 20) ⊎ (23 < x)) (pla
         λ p. (r.1 p.0, same_place p.0 ∙ p.1),
       )
 
-pub every-cut-judged : EveryCutJudged
-every-cut-judged s =
-    let c = every-cut_exactly s in
+pub every_cut_judged : EveryCutJudged
+every_cut_judged s =
+    let c = every_cut_exactly s in
     record {
       eleven = λ place.
           let r = as_read s 11 (λ z. omega arith) (inl (omega arith)) place in

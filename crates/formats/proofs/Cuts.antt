@@ -148,5 +148,5 @@ module _ (s : List ℕ) where
         );
       }
 
-pub every-cut_exactly : EveryCutExactly
-every-cut_exactly = cuts
+pub every_cut_exactly : EveryCutExactly
+every_cut_exactly = cuts

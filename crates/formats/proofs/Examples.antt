@@ -7,9 +7,9 @@ use Rattle.formats.specs.Records.{mark_of, mark_at, header_of, order_at, view_at
 use Rattle.formats.specs.ViewFile.{view_bytes, file_of, tested_at, values_read, read_from, read_of}
 use Rattle.formats.specs.Examples.{hold, ExamplesHold, RefusedFile, ByteForByte, OrdersRead}
 
-pub examples-hold : ExamplesHold
+pub examples_hold : ExamplesHold
 unfolding hold read_of read_from header_of view_at mark_at mark_of tested_at values_read has plus first every count within size
-examples-hold = refl
+examples_hold = refl
 
 pub refused_file : RefusedFile
 unfolding read_of read_from header_of view_at mark_at mark_of tested_at values_read has plus first every count within size

@@ -23,7 +23,7 @@ use Rattle.formats.specs.Cuts.{EndsInHeader, EndsInMark, ViewMark, NoneBefore, E
 use Rattle.formats.specs.Cuts.{opening, later, EveryCutInside, EveryCutBetween}
 use Rattle.formats.proofs.Walked.{Walked, reached_walked}
 use Rattle.formats.proofs.WholeFile.{walked_read}
-use Rattle.formats.proofs.Cuts.{not_true, none_before, known, not_again, every-cut_exactly}
+use Rattle.formats.proofs.Cuts.{not_true, none_before, known, not_again, every_cut_exactly}
 
 -- A header of which no line applies.
 pub record WholeHeader (s : List ℕ) : Type 0 where
@@ -169,20 +169,20 @@ cut_header s w k e =
 -- The numbers and the places.
 module _ (s : List ℕ) (at k : ℕ) (h : k ≤ length s) where
   one_left : EndsInMark (take k s) at → (file_number (read_of (take k s)).answer ≡ 11) × ((read_of (take k s)).place ≡ at)
-  one_left e = ((every-cut_exactly (take k s)).eleven at).1 e
+  one_left e = ((every_cut_exactly (take k s)).eleven at).1 e
 
   more_left : EndsInBody (take k s) → (file_number (read_of (take k s)).answer ≡ 24) × ((read_of (take k s)).place ≡ k)
-  more_left e = ((every-cut_exactly (take k s)).twenty_four k).1 (e, sym (short_length s k h))
+  more_left e = ((every_cut_exactly (take k s)).twenty_four k).1 (e, sym (short_length s k h))
 
-pub every-cut-inside : EveryCutInside
-every-cut-inside s at end k (opening z) l m =
+pub every_cut_inside : EveryCutInside
+every_cut_inside s at end k (opening z) l m =
     let w = header_stands s z in
     let h : k ≤ length s = omega (arith, w.long) in
     record {
       one = λ e. one_left s 0 k h (record { comes = inl refl; ends = omega (arith, e, short_length s k h) });
       more = λ e. more_left s 0 k h (in_header (cut_header s w k (omega arith)));
     }
-every-cut-inside s at end k (later {before = before} r i z) l m =
+every_cut_inside s at end k (later {before = before} r i z) l m =
     let w = view_stands s at before z in
     let h : k ≤ length s = omega (arith, w.long) in
     record {
@@ -190,8 +190,8 @@ every-cut-inside s at end k (later {before = before} r i z) l m =
       more = λ e. more_left s at k h (in_body s k h r w l m e);
     }
 
-pub every-cut_between : EveryCutBetween
-every-cut_between s at before r =
+pub every_cut_between : EveryCutBetween
+every_cut_between s at before r =
     let h = (reached-inside r).1 in
     let w = reached_walked (same-reached s at h r (omega arith)) in
     ap (λ (x : ViewsRead). file_number x.answer)

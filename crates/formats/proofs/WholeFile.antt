@@ -182,8 +182,8 @@ to_the_end s t (records (whole places v r q)) = record { places = places; views 
 to_the_end s t (records (refused a at before v r l e q)) =
     absurd (record_refused s at v.n v.own a l e (sym (ap (λ (x : ViewsRead). file_number x.answer) q) ∙ zero_if (read_of s).answer t))
 
-pub read-in_range : ReadInRange
-read-in_range f t =
+pub read_in_range : ReadInRange
+read_in_range f t =
     let s = f.content in
     let e = to_the_end s t (file_ends s) in
     subst InRange (sym (ap (λ (x : ViewsRead). x.views) e.same)) (walked_in_range s (length s) e.places e.views f.bytes e.walked)

@@ -25,9 +25,9 @@ use Rattle.rules.proofs.Laws.Finishing.{finishes_unless_sticks, finishing_alone}
 use Rattle.history.specs.Runs.{Call, steps, crashes, answer, machine_taker, from, runs, tally, accepted_step_of, accepted_steps}
 use Rattle.history.specs.Theorems.{AloneNeverOneNorSeven, FinishesAlone, AloneFinishes, WaitFree}
 use Rattle.world.proofs.Laws.{leaves-append, counts-append}
-use Rattle.history.proofs.Moves.{every-state-shaped}
+use Rattle.history.proofs.Moves.{every_state_shaped}
 use Rattle.history.proofs.Stays.{finished_from}
-use Rattle.history.proofs.Counts.{accesses-counted}
+use Rattle.history.proofs.Counts.{accesses_counted}
 use Rattle.history.proofs.Invariant.{Inv, inv_from, inv_runs}
 use Rattle.history.proofs.Answers.{answer_fine}
 use Rattle.world.specs.Calls.{counts, leaves}
@@ -85,7 +85,7 @@ alone_finishes n lo hi cs p lp hp came alive going = go (stage_of (runs n cs) p)
     I = inv_runs n lo hi cs
 
     size : (runs n cs).n ≡ n
-    size = (every-state-shaped n lo hi cs).size
+    size = (every_state_shaped n lo hi cs).size
 
     ok : Valid (runs n cs) p
     ok = record { shape = record_shaped (runs n cs) I.meets.shape; low = lp; high = subst (λ k. p ≤ k) (sym size) hp }
@@ -135,10 +135,10 @@ alone_finishes n lo hi cs p lp hp came alive going = go (stage_of (runs n cs) p)
         all = counts-append machine_taker (accepted_step_of p) (fresh n) cs ds ∙ ap (λ k. accepted_steps n cs p + k) as_calls.1
 
         most : accepted_steps n (cs ++ ds) p ≤ n * (n + 1)
-        most = subst (λ k. k ≤ n * (n + 1)) (accesses-counted n lo hi (cs ++ ds) p lp hp) bounded
+        most = subst (λ k. k ≤ n * (n + 1)) (accesses_counted n lo hi (cs ++ ds) p lp hp) bounded
           where
             M : Meets n (runs n (cs ++ ds))
-            M = every-state-shaped n lo hi (cs ++ ds)
+            M = every_state_shaped n lo hi (cs ++ ds)
 
             bounded : accesses_of n (stage_of (runs n (cs ++ ds)) p) ≤ n * (n + 1)
             bounded =
@@ -152,7 +152,7 @@ wait_free n lo hi cs p lp hp came alive k enough = go (finished (stage_of (runs 
     after_all : (before rest : List Call) → finished (stage_of (runs n before) p) ≡ true → finished (stage_of (runs n (before ++ rest)) p) ≡ true
     after_all before rest t =
         subst (λ m. finished (stage_of m p) ≡ true) (sym (leaves-append machine_taker (fresh n) before rest))
-        (ap (λ P. finished P.stage) (finished_from n (runs n before) (every-state-shaped n lo hi before) p lp t rest) ∙ t)
+        (ap (λ P. finished P.stage) (finished_from n (runs n before) (every_state_shaped n lo hi before) p lp t rest) ∙ t)
 
     go : (b : Bool) → finished (stage_of (runs n cs) p) ≡ b → finished (stage_of (runs n (cs ++ replicate k (steps p))) p) ≡ true
     go true t = after_all cs (replicate k (steps p)) t

@@ -26,7 +26,7 @@ use Rattle.history.specs.Runs.{Call, enters, steps, crashes, answer, runs}
 use Rattle.world.specs.Programs.{accesses}
 use Rattle.history.specs.AsWorld.{program_at, program_of}
 use Rattle.history.specs.Theorems.{NeverOneNorSeven}
-use Rattle.history.proofs.Moves.{every-state-shaped}
+use Rattle.history.proofs.Moves.{every_state_shaped}
 use Rattle.history.proofs.Figure.{program_goes}
 use Rattle.history.proofs.Invariant.{MissedNothing, Inv, in_row, row_most, all_found, made_entered, inv_runs}
 

@@ -24,7 +24,7 @@ use Rattle.rules.proofs.Laws.Accesses.{accesses_of_calls}
 use Rattle.rules.proofs.Laws.Keeps.{every_state_meets}
 use Rattle.history.specs.Runs.{Call, enters, steps, crashes, answer, after, from, runs, tally, accepted_step_of, accepted_step}
 use Rattle.history.specs.Theorems.{AccessesCounted, ExactSteps, EnoughSteps, total, CountsOfRuns}
-use Rattle.history.proofs.Moves.{meets_after, nobody_yet, every-state-shaped, by_call}
+use Rattle.history.proofs.Moves.{meets_after, nobody_yet, every_state_shaped, by_call}
 use Rattle.world.specs.Calls.{counts, leaves}
 
 -- one call
@@ -66,8 +66,8 @@ counted-from n m M p lp (c ∷ cs) =
     sum : (a b d t u : ℕ) → a ≡ b + u → b ≡ d + t → a ≡ d + (t + u)
     sum a b d t u p q = omega arith
 
-pub accesses-counted : AccessesCounted
-accesses-counted n lo hi cs p lp hp =
+pub accesses_counted : AccessesCounted
+accesses_counted n lo hi cs p lp hp =
     counted-from n (fresh n) (every_state_meets.starts n lo hi) p lp cs ∙ none _ _ (ap (λ P. accesses_of n P.stage) (nobody_yet n p))
   where
     none : (a b : ℕ) → a ≡ 0 → a + b ≡ b
@@ -75,9 +75,9 @@ accesses-counted n lo hi cs p lp hp =
 
 pub exact_steps : ExactSteps
 exact_steps n lo hi cs p has =
-    let M : Meets n (runs n cs) = every-state-shaped n lo hi cs in
+    let M : Meets n (runs n cs) = every_state_shaped n lo hi cs in
     let hp : p ≤ n = omega (arith, M.size, has.high) in
-    sym (accesses-counted n lo hi cs p has.low hp)
+    sym (accesses_counted n lo hi cs p has.low hp)
     ∙ subst (λ k. accesses_of k (stage_of (runs n cs) p) ≡ (k + 1) * (k - size (found_of (stage_of (runs n cs) p)) + 1)) M.size
     (accesses_of_calls.finished (runs n cs) M.shape p has.low has.high has.ended)
 
@@ -106,7 +106,7 @@ pub enough_steps : EnoughSteps
 enough_steps n lo hi cs p lp hp enough = go (finished (stage_of (runs n cs) p)) refl
   where
     M : Meets n (runs n cs)
-    M = every-state-shaped n lo hi cs
+    M = every_state_shaped n lo hi cs
 
     p32 : p ≤ 32
     p32 = omega arith
@@ -116,7 +116,7 @@ enough_steps n lo hi cs p lp hp enough = go (finished (stage_of (runs n cs) p)) 
 
     go : (b : Bool) → finished (stage_of (runs n cs) p) ≡ b → b ≡ true
     go true e = refl
-    go false e = absurd (less _ _ _ (not_all n (row_of (runs n cs)) (stage_of (runs n cs) p) lo shape e) (accesses-counted n lo hi cs p lp hp) enough)
+    go false e = absurd (less _ _ _ (not_all n (row_of (runs n cs)) (stage_of (runs n cs) p) lo shape e) (accesses_counted n lo hi cs p lp hp) enough)
       where
         less : (a b c : ℕ) → a < c → a ≡ b → c ≤ b → ⊥
         less a b c h e l = omega arith
@@ -185,5 +185,5 @@ steps_in_all n m M (c ∷ cs) =
     sum : (a b d e t : ℕ) → a ≡ d → b ≡ e → t ≡ d + e → a + b ≡ t
     sum a b d e t p q r = omega arith
 
-pub counts-of-runs : CountsOfRuns
-counts-of-runs n lo hi cs = steps_in_all n (fresh n) (every_state_meets.starts n lo hi) cs
+pub counts_of_runs : CountsOfRuns
+counts_of_runs n lo hi cs = steps_in_all n (fresh n) (every_state_meets.starts n lo hi) cs

@@ -34,9 +34,9 @@ use Rattle.history.specs.AsWorld.{program_at, program_of, world_of}
 use Rattle.history.specs.Views.{Has, View}
 use Rattle.history.specs.Theorems.{ReachedIsBegun}
 use Rattle.history.specs.Demand.{figure_runs, accesses_made, deposited, in_row, begun, Returned, InView, DemandThree, EveryRunDemandThree}
-use Rattle.history.proofs.Moves.{meets_after, every-state-shaped, nobody_yet, Stepped, writing, finding, ending, falling, stepped, by_call}
+use Rattle.history.proofs.Moves.{meets_after, every_state_shaped, nobody_yet, Stepped, writing, finding, ending, falling, stepped, by_call}
 use Rattle.history.proofs.Levels.{at_most_x_reach_x}
-use Rattle.history.proofs.World.{OfRuns, machine_follows, of-runs, fresh_world, same_remains, every_run_is_figure, among_of, low_of, high_of}
+use Rattle.history.proofs.World.{OfRuns, machine_follows, of_runs, fresh_world, same_remains, every_run_is_figure, among_of, low_of, high_of}
 use Rattle.history.proofs.Figure.{rec_writes, running_reads, program_goes, view_is_returned}
 use Rattle.history.proofs.Counts.{exact_steps, enough_steps}
 use Rattle.history.proofs.Snapshot.{three_properties}
@@ -54,16 +54,16 @@ module _ (n : ℕ) (lo : 1 ≤ n) (hi : n ≤ 32) (cs : List Call) where
   m = runs n cs
 
   M : Meets n m
-  M = every-state-shaped n lo hi cs
+  M = every_state_shaped n lo hi cs
 
   same_made : (p : ℕ) → accepted_steps n cs p ≡ accesses_made n cs p
   same_made p =
-      same-counts machine_taker (world_taker (figure n)) world_of (OfRuns n) (machine_follows n) (accepted_step_of p) (fresh n) (of-runs n lo hi) cs
+      same-counts machine_taker (world_taker (figure n)) world_of (OfRuns n) (machine_follows n) (accepted_step_of p) (fresh n) (of_runs n lo hi) cs
       ∙ ap (λ w. counts (world_taker (figure n)) (accepted_step_of p) w cs) (fresh_world n lo hi)
 
   same-given : (p : ℕ) → given n cs p ≡ deposited n cs p
   same-given p =
-      same-deposits machine_taker (world_taker (figure n)) world_of (OfRuns n) (machine_follows n) (fresh n) (of-runs n lo hi) cs p
+      same-deposits machine_taker (world_taker (figure n)) world_of (OfRuns n) (machine_follows n) (fresh n) (of_runs n lo hi) cs p
       ∙ ap (λ w. deposits (world_taker (figure n)) w cs p) (fresh_world n lo hi)
 
   -- whoever has something left to do, or has returned, is one of the processes
@@ -271,7 +271,7 @@ reached_is_begun n lo hi cs x p lx lp hp =
     same_truth (reached n cs x p) (ever machine_taker (goes n x p lx lp) (fresh n) cs) (λ t. first (there_goes n x p lx lp (fresh n) M cs t))
     (goes_reaches n x p lx lp (fresh n) cs)
     ∙ same-ever machine_taker (world_taker (figure n)) world_of (OfRuns n) (machine_follows n) (goes n x p lx lp) (λ w. in_row x (w.remains p)) rows
-    (fresh n) (of-runs n lo hi) cs
+    (fresh n) (of_runs n lo hi) cs
     ∙ ap (λ w. ever (world_taker (figure n)) (λ w. in_row x (w.remains p)) w cs) (fresh_world n lo hi)
   where
     M : Meets n (fresh n)

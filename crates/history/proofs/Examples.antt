@@ -16,7 +16,7 @@ use Rattle.history.specs.Figure.{Address, Pair, Code, collect, pairs, rec_update
 use Rattle.history.specs.AsWorld.{program_of, world_of}
 use Rattle.history.specs.Demand.{figure_runs, begun}
 use Rattle.history.specs.Examples.{printed, PrintedCounts, PrintedLevels, PrintedEntered, PrintedViews}
-use Rattle.history.proofs.World.{OfRuns, machine_follows, of-runs, fresh_world, same_remains}
+use Rattle.history.proofs.World.{OfRuns, machine_follows, of_runs, fresh_world, same_remains}
 use Rattle.history.proofs.Demand.{reached_is_begun}
 
 abbrev F : World Address (List Pair)
@@ -24,17 +24,17 @@ F = start (figure 2)
 
 counted : (test : Call → Bool → Bool) (k : ℕ) → counts (world_taker (figure 2)) test F printed ≡ k → tally test (fresh 2) printed ≡ k
 counted test k e =
-    same-counts machine_taker (world_taker (figure 2)) world_of (OfRuns 2) (machine_follows 2) test (fresh 2) (of-runs 2 (lit≤ tt) (lit≤ tt)) printed
+    same-counts machine_taker (world_taker (figure 2)) world_of (OfRuns 2) (machine_follows 2) test (fresh 2) (of_runs 2 (lit≤ tt) (lit≤ tt)) printed
     ∙ ap (λ w. counts (world_taker (figure 2)) test w printed) (fresh_world 2 (lit≤ tt) (lit≤ tt)) ∙ e
 
 deposited : (p v : ℕ) → deposits (world_taker (figure 2)) F printed p ≡ v → given 2 printed p ≡ v
 deposited p v e =
-    same-deposits machine_taker (world_taker (figure 2)) world_of (OfRuns 2) (machine_follows 2) (fresh 2) (of-runs 2 (lit≤ tt) (lit≤ tt)) printed p
+    same-deposits machine_taker (world_taker (figure 2)) world_of (OfRuns 2) (machine_follows 2) (fresh 2) (of_runs 2 (lit≤ tt) (lit≤ tt)) printed p
     ∙ ap (λ w. deposits (world_taker (figure 2)) w printed p) (fresh_world 2 (lit≤ tt) (lit≤ tt)) ∙ e
 
 entered_by : (cs : List Call) (p : ℕ) (b : Bool) → admits (world_taker (figure 2)) F cs p ≡ b → has_entered 2 cs p ≡ b
 entered_by cs p b e =
-    same-admits machine_taker (world_taker (figure 2)) world_of (OfRuns 2) (machine_follows 2) (fresh 2) (of-runs 2 (lit≤ tt) (lit≤ tt)) cs p
+    same-admits machine_taker (world_taker (figure 2)) world_of (OfRuns 2) (machine_follows 2) (fresh 2) (of_runs 2 (lit≤ tt) (lit≤ tt)) cs p
     ∙ ap (λ w. admits (world_taker (figure 2)) w cs p) (fresh_world 2 (lit≤ tt) (lit≤ tt)) ∙ e
 
 left : (p : ℕ) (P : Code) → 1 ≤ p → p ≤ 2 → (figure_runs 2 printed).remains p ≡ P → program_of (runs 2 printed) p ≡ P

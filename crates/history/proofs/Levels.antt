@@ -22,7 +22,7 @@ use Rattle.rules.proofs.Laws.Keeps.{every_state_meets}
 use Rattle.rules.proofs.Laws.Effects.{effects_of_calls}
 use Rattle.history.specs.Runs.{Call, after, from, runs, reached}
 use Rattle.history.specs.Theorems.{AtMostXReachX}
-use Rattle.history.proofs.Moves.{reached_from, meets_after, every-state-shaped, Stepped, writing, finding, ending, falling, stepped, by_call}
+use Rattle.history.proofs.Moves.{reached_from, meets_after, every_state_shaped, Stepped, writing, finding, ending, falling, stepped, by_call}
 use Rattle.history.proofs.Invariant.{Inv, at_most_lem, level_most, inv_runs}
 use Rattle.world.specs.Calls.{ever, leaves}
 
@@ -97,7 +97,7 @@ reached_sinks n m M (c ∷ cs) x p lx lp t =
 
 pub at_most_x_reach_x : AtMostXReachX
 at_most_x_reach_x n lo hi cs x lx hx =
-    bound (runs n cs) (inv_runs n lo hi cs) (every-state-shaped n lo hi cs).size (reached n cs x)
+    bound (runs n cs) (inv_runs n lo hi cs) (every_state_shaped n lo hi cs).size (reached n cs x)
     (λ p lp _ t. reached_sinks n (fresh n) (every_state_meets.starts n lo hi) cs x p lx lp t)
   where
     bound : (m : Machine) → Inv m → m.n ≡ n → (f : ℕ → Bool) → ((p : ℕ) → 1 ≤ p → p ≤ n → f p ≡ true → at_most_lem m x p ≡ true) → count f n ≤ x

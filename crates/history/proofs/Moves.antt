@@ -48,8 +48,8 @@ unfolding leaves
 meets_from n m M [] = M
 meets_from n m M (c ∷ cs) = meets_from n (after m c) (meets_after n m M c) cs
 
-pub every-state-shaped : EveryStateShaped
-every-state-shaped n lo hi cs = meets_from n _ (every_state_meets.starts n lo hi) cs
+pub every_state_shaped : EveryStateShaped
+every_state_shaped n lo hi cs = meets_from n _ (every_state_meets.starts n lo hi) cs
 
 -- nobody has entered a fresh machine
 pub blank {ℓ} : {A : Type ℓ} (k i : ℕ) (a : A) → get_or (replicate k a) i a ≡ a

@@ -26,7 +26,7 @@ use Rattle.history.specs.AsWorld.{register}
 use Rattle.history.specs.Views.{Has}
 use Rattle.history.specs.Theorems.{CrashedStays, WrittenStays, SameList, FinishedStays}
 use Rattle.world.proofs.Laws.{leaves-append}
-use Rattle.history.proofs.Moves.{meets_after, meets_from, every-state-shaped, Stepped, writing, finding, ending, falling, stepped, by_call}
+use Rattle.history.proofs.Moves.{meets_after, meets_from, every_state_shaped, Stepped, writing, finding, ending, falling, stepped, by_call}
 use Rattle.history.proofs.Figure.{register_stays, enter_is_start, crash_is_end}
 use Rattle.world.specs.Calls.{leaves}
 
@@ -58,7 +58,7 @@ module _ (test : Stage → Bool) (absent : test Absent ≡ false) (running : (x 
 pub crashed_stays : CrashedStays
 crashed_stays n lo hi cs p lp t ds =
     ap (λ m. process_of m p) (leaves-append machine_taker (fresh n) cs ds)
-    ∙ still_from crashed refl (λ x k f. refl) n (runs n cs) (every-state-shaped n lo hi cs) p lp t ds
+    ∙ still_from crashed refl (λ x k f. refl) n (runs n cs) (every_state_shaped n lo hi cs) p lp t ds
 
 pub finished_from : (n : ℕ) (m : Machine) → Meets n m → (p : ℕ) → 1 ≤ p → finished (stage_of m p) ≡ true → (cs : List Call)
     → process_of (from m cs) p ≡ process_of m p
@@ -119,7 +119,7 @@ written_from n m M x i v lx hx li hi t (c ∷ cs) =
 pub written_stays : WrittenStays
 written_stays n lo hi cs x i v lx hx li hi' t ds =
     ap (λ m. register m x i) (leaves-append machine_taker (fresh n) cs ds)
-    ∙ written_from n (runs n cs) (every-state-shaped n lo hi cs) x i v lx (omega arith) li (omega arith) t ds
+    ∙ written_from n (runs n cs) (every_state_shaped n lo hi cs) x i v lx (omega arith) li (omega arith) t ds
 
 -- A list once told: its pairs are in registers that stay.
 module _ (n : ℕ) (m : Machine) (M : Meets n m) (p : ℕ) (h : Has m p) (cs : List Call) where
@@ -166,4 +166,4 @@ module _ (n : ℕ) (m : Machine) (M : Meets n m) (p : ℕ) (h : Has m p) (cs : L
 
 pub finished_stays : FinishedStays
 finished_stays n lo hi cs p h ds =
-    subst (λ m. SameList (runs n cs) m p) (sym (leaves-append machine_taker (fresh n) cs ds)) (same_list n (runs n cs) (every-state-shaped n lo hi cs) p h ds)
+    subst (λ m. SameList (runs n cs) m p) (sym (leaves-append machine_taker (fresh n) cs ds)) (same_list n (runs n cs) (every_state_shaped n lo hi cs) p h ds)

@@ -31,8 +31,8 @@ view_is_returned = Figure.view_is_returned
 pub look_shows_view : LookShowsView
 look_shows_view = Looks.look_shows_view
 
-pub every-state-shaped : EveryStateShaped
-every-state-shaped = Moves.every-state-shaped
+pub every_state_shaped : EveryStateShaped
+every_state_shaped = Moves.every_state_shaped
 
 pub never_one_nor_seven : NeverOneNorSeven
 never_one_nor_seven = Answers.never_one_nor_seven
@@ -64,8 +64,8 @@ exact_steps = Counts.exact_steps
 pub enough_steps : EnoughSteps
 enough_steps = Counts.enough_steps
 
-pub accesses-counted : AccessesCounted
-accesses-counted = Counts.accesses-counted
+pub accesses_counted : AccessesCounted
+accesses_counted = Counts.accesses_counted
 
 pub wait_free : WaitFree
 wait_free = Alone.wait_free
@@ -82,8 +82,8 @@ written_stays = Stays.written_stays
 pub alone_finishes : AloneFinishes
 alone_finishes = Alone.alone_finishes
 
-pub counts-of-runs : CountsOfRuns
-counts-of-runs = Counts.counts-of-runs
+pub counts_of_runs : CountsOfRuns
+counts_of_runs = Counts.counts_of_runs
 
 pub entered_by_call : EnteredByCall
 entered_by_call = Given.entered_by_call

@@ -30,7 +30,7 @@ use Rattle.history.specs.AsWorld.{register, program_at, program_of, world_of}
 use Rattle.history.specs.Theorems.{FiguresCall, CallIsFigures}
 use Rattle.history.specs.IsFigure.{EveryRunIsFigure}
 use Rattle.history.specs.Demand.{figure_runs}
-use Rattle.history.proofs.Moves.{stepped, meets_after, every-state-shaped, blank, nobody_yet}
+use Rattle.history.proofs.Moves.{stepped, meets_after, every_state_shaped, blank, nobody_yet}
 use Rattle.history.proofs.Invariant.{Inv, inv_after, inv_fresh}
 use Rattle.history.proofs.Answers.{step-accesses}
 use Rattle.sets.specs.Members.{has}
@@ -351,8 +351,8 @@ machine_follows n =
     kept-size : (m : Machine) → Inv m → (c : Call) → (after m c).n ≡ m.n
     kept-size m I c = (meets_after m.n m I.meets c).size
 
-pub of-runs : (n : ℕ) → 1 ≤ n → n ≤ 32 → OfRuns n (fresh n)
-of-runs n lo hi = record { size = refl; inv = inv_fresh n lo hi }
+pub of_runs : (n : ℕ) → 1 ≤ n → n ≤ 32 → OfRuns n (fresh n)
+of_runs n lo hi = record { size = refl; inv = inv_fresh n lo hi }
 
 -- nobody has entered a fresh machine, and nothing stands in its registers
 pub fresh_world : (n : ℕ) → 1 ≤ n → n ≤ 32 → world_of (fresh n) ≡ start (figure n)
@@ -370,7 +370,7 @@ fresh_world n lo hi =
 pub every_run_is_figure : EveryRunIsFigure
 every_run_is_figure n lo hi cs =
     let f = machine_follows n in
-    let r = of-runs n lo hi in
+    let r = of_runs n lo hi in
     let w : world_of (runs n cs) ≡ figure_runs n cs
     = same-leaves machine_taker (world_taker (figure n)) world_of (OfRuns n) f (fresh n) r cs
     ∙ ap (λ u. leaves (world_taker (figure n)) u cs) (fresh_world n lo hi) in
@@ -384,6 +384,6 @@ every_run_is_figure n lo hi cs =
 -- what is left of a process's program
 pub same_remains : (n : ℕ) → 1 ≤ n → n ≤ 32 → (cs : List Call) (p : ℕ) → 1 ≤ p → p ≤ n → program_of (runs n cs) p ≡ (figure_runs n cs).remains p
 same_remains n lo hi cs p lp hp =
-    sym (ap (λ k. cond (among k p) (program_of (runs n cs) p) halted) (every-state-shaped n lo hi cs).size
+    sym (ap (λ k. cond (among k p) (program_of (runs n cs) p) halted) (every_state_shaped n lo hi cs).size
     ∙ ap (λ b. cond b (program_of (runs n cs) p) halted) (among_of n p lp hp))
     ∙ ap (λ w. w.remains p) (every_run_is_figure n lo hi cs).world

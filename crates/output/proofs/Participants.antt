@@ -10,7 +10,7 @@ use Rattle.formats.specs.Records.{header_of}
 use Rattle.text.specs.Ascii.{ascii}
 use Rattle.text.specs.Decimal.{decimal}
 use Rattle.history.specs.Runs.{Call, runs, has_entered}
-use Rattle.history.proofs.Theorems.{every-state-shaped, entered_by_call}
+use Rattle.history.proofs.Theorems.{every_state_shaped, entered_by_call}
 use Rattle.replays.specs.Replays.{replay_of, calls_of, processes_of}
 use Rattle.replays.proofs.Promises.{every_file_counted, few_processes}
 use Rattle.output.specs.Lines.{partaking, last_line}
@@ -19,7 +19,7 @@ use Rattle.output.specs.Promises.{ParticipantsCounted}
 partaking-counted : (n : ℕ) → 1 ≤ n → n ≤ 32 → (cs : List Call) → partaking (runs n cs) ≡ count (has_entered n cs) n
 unfolding partaking
 partaking-counted n lo hi cs =
-    ap (count (λ i. entered (stage_of (runs n cs) i))) (every-state-shaped n lo hi cs).size
+    ap (count (λ i. entered (stage_of (runs n cs) i))) (every_state_shaped n lo hi cs).size
     ∙ count_ext (λ i. entered (stage_of (runs n cs) i)) (has_entered n cs) n (λ i low _. entered_by_call n lo hi cs i low)
 
 last_line_lem : (m : Machine) (k : ℕ) → partaking m ≡ k → last_line m ≡ ascii "participants " ++ (decimal k ++ 10 ∷ [])

@@ -32,7 +32,7 @@ use Rattle.findings.specs.Verdict.{judged}
 use Rattle.findings.specs.Properties as properties
 use Rattle.findings.proofs.Accepts.{accepts_exactly}
 use Rattle.findings.proofs.FirstBreak.{yes_is_no_finding}
-use Rattle.findings.proofs.Verdicts.{read-then_checked}
+use Rattle.findings.proofs.Verdicts.{read_then_checked}
 use Rattle.replays.specs.Replays.{ended, replay_of, calls_of, processes_of}
 use Rattle.replays.specs.OrderFile.{FileCalls}
 use Rattle.replays.specs.Writes.{views_of, bytes_of}
@@ -137,7 +137,7 @@ accepts n cs m d w =
     let back : read_of (bytes_of m) ≡ read_whole (bytes_of m) (views_of m) = written_reads_back m d.shape.held w (record_shaped m d.shape.shape) in
     record {
       checked = ok;
-      verdict = read-then_checked (bytes_of m) (ap (λ (r : ViewsRead). numbers.is_whole r.answer) back)
+      verdict = read_then_checked (bytes_of m) (ap (λ (r : ViewsRead). numbers.is_whole r.answer) back)
           ∙ ap (λ (r : ViewsRead). judged (length (bytes_of m)) (check_of r.views)) back
           ∙ ap (judged (length (bytes_of m))) ok;
     }

@@ -27,7 +27,7 @@ use Rattle.formats.specs.ViewFile.{view_bytes, file_of}
 use Rattle.replays.specs.OrderFile.{order_bytes}
 use Rattle.replays.specs.Writes.{views_of, bytes_of, write_of, buffer_of}
 use Rattle.replays.specs.Examples.{RunLine, printed_file, Printed, PrintedCuts, Small, OrdersRefused, HeaderRefused, Spelled, FilesWritten, WriteLine, WriterAnswers}
-use Rattle.replays.proofs.Writes.{every-write_numbered}
+use Rattle.replays.proofs.Writes.{every_write_numbered}
 use Rattle.world.specs.Calls.{counts, leaves}
 
 -- what the printed file holds, with a budget of 12 or more
@@ -146,14 +146,14 @@ two-written = refl
 
 short_writes : (buffer : List ℕ) → length buffer < 3 → WriteLine (fresh 2) buffer 17 0 buffer
 short_writes buffer h =
-    let w = every-write_numbered (fresh 2) buffer in
+    let w = every_write_numbered (fresh 2) buffer in
     let k = w.seventeen.1 (two_shaped, rw two-written h) in
     let n = w.nothing (λ z. omega arith) in
     record { number_is = k; bytes_are = n.0; buffer_is = n.1 }
 
 long_writes : (buffer : List ℕ) → 3 ≤ length buffer → WriteLine (fresh 2) buffer 0 3 (MN 2 ++ drop 3 buffer)
 long_writes buffer h =
-    let w = every-write_numbered (fresh 2) buffer in
+    let w = every_write_numbered (fresh 2) buffer in
     let k = w.none.1 (two_shaped, rw two-written h) in
     let n = w.written k in
     record { number_is = k; bytes_are = n.0 ∙ ap length two-written; buffer_is = n.1 ∙ ap (λ (l : List ℕ). l ++ drop (length l) buffer) two-written }

@@ -39,8 +39,8 @@ unfolding order_bytes
 calls-bytes [] w = bytes-none
 calls-bytes (c ∷ cs) w = bytes-append (call_bytes c) (order_bytes cs) (call_bytes_lem c w.0) (calls-bytes cs w.1)
 
-pub order_file-bytes : OrderFileBytes
-order_file-bytes n high cs w = mark_and_byte 77 78 n (order_bytes cs) (omega arith) (omega arith) (omega arith) (calls-bytes cs w)
+pub order_file_bytes : OrderFileBytes
+order_file_bytes n high cs w = mark_and_byte 77 78 n (order_bytes cs) (omega arith) (omega arith) (omega arith) (calls-bytes cs w)
 
 -- The k bytes from a place and i more on.
 bytes_from : List ℕ → ℕ → ℕ → ℕ → List ℕ
@@ -133,8 +133,8 @@ held_carried {s} b (enter {at = at} {cs = cs} h r) =
 held_carried {s} b (step {at = at} {cs = cs} h r) = carried_more cs (steps (byte_at s (at + 2))) (held_carried b h) (b (at + 2))
 held_carried {s} b (crash {at = at} {cs = cs} h r) = carried_more cs (crashes (byte_at s (at + 2))) (held_carried b h) (b (at + 2))
 
-pub every-file_of-calls : EveryFileOfCalls
-every-file_of-calls f budget z =
+pub every_file_of_calls : EveryFileOfCalls
+every_file_of_calls f budget z =
     let h = every_file_holds f.content budget z in
     record {
       carried = held_carried f.bytes h.calls;
@@ -144,11 +144,11 @@ every-file_of-calls f budget z =
 -- the calls of a refused header too, which are none
 pub file_calls : (s : List ℕ) → Bytes s → (budget : ℕ) (h : Header) → header_of s ≡ h → FileCalls (calls_by s budget h)
 file_calls s b budget (Header.Fault a) e = tt
-file_calls s b budget (Header.Of n) e = rw e at (every-file_of-calls (record { content = s; bytes = b }) budget (header_whole s n e)).carried
+file_calls s b budget (Header.Of n) e = rw e at (every_file_of_calls (record { content = s; bytes = b }) budget (header_whole s n e)).carried
 
-pub whole-file_of-calls : WholeFileOfCalls
-whole-file_of-calls f budget z =
+pub whole_file_of_calls : WholeFileOfCalls
+whole_file_of_calls f budget z =
     let s = f.content in
     let h = zero_read s budget z in
     let all : take (taken_to s budget) s ≡ s = ap (λ (k : ℕ). take k s) (whole_taken s budget z) ∙ take-length s in
-    sym all ∙ (every-file_of-calls f budget (header_whole s h.0 h.1)).bytes
+    sym all ∙ (every_file_of_calls f budget (header_whole s h.0 h.1)).bytes

@@ -59,8 +59,8 @@ as_looked m e i low high =
           ∙ sym (ap (λ (r : Sight). get_or r.values (j - 1) 0) l);
     }
 
-pub every-view-looked : EveryViewLooked
+pub every_view_looked : EveryViewLooked
 unfolding views_of
-every-view-looked m e =
+every_view_looked m e =
     let S = shaped_record m e in
     record { processes = refl; each = as_looked m e; no_other = λ i h. ((owner_known m S i h).0, owner_below m S i h) }

@@ -6,7 +6,7 @@ use mathlib.Core.List.{List}
 use native.Mathlib.Omega.{arith}
 use lib.ListN.{length}
 use Rattle.history.specs.Runs.{Call, runs}
-use Rattle.history.proofs.Theorems.{every-state-shaped, never_one_nor_seven, at_most_x_reach_x, three_properties, exact_steps, enough_steps, counts-of-runs}
+use Rattle.history.proofs.Theorems.{every_state_shaped, never_one_nor_seven, at_most_x_reach_x, three_properties, exact_steps, enough_steps, counts_of_runs}
 use Rattle.sets.specs.Lines.{first_that}
 use Rattle.formats.specs.declared.FileAnswer.{FileAnswer}
 use Rattle.formats.specs.declared.Header.{Header}
@@ -61,8 +61,8 @@ none_taken s budget z (Header.Fault a) e =
     subst (NoneTaken s (file_number a)) (sym (refused_header s budget a e))
     (record { number = refl; place = refl; taken = refl; accesses = refl; refused = refl; state = refl })
 
-pub every-refused_header : EveryRefusedHeader
-every-refused_header s budget z =
+pub every_refused_header : EveryRefusedHeader
+every_refused_header s budget z =
     subst (λ (k : ℕ). NoneTaken s k (replay_of s budget)) (header_number s) (none_taken s budget z (header_of s) refl)
 
 -- 1 to 32 processes, with a refused header one
@@ -78,7 +78,7 @@ demand_three n low high cs =
       properties = three_properties n low high cs;
       exact = exact_steps n low high cs;
       enough = enough_steps n low high cs;
-      shape = every-state-shaped n low high cs;
+      shape = every_state_shaped n low high cs;
       never = never_one_nor_seven n low high cs;
     }
 
@@ -91,4 +91,4 @@ every_file_demand_three s budget =
 pub every_file_accesses : EveryFileAccesses
 every_file_accesses s budget =
     let f = few_processes s (header_of s) refl in
-    (every_file_counted s budget).accesses ∙ counts-of-runs (processes_of s) f.0 f.1 (calls_of s budget)
+    (every_file_counted s budget).accesses ∙ counts_of_runs (processes_of s) f.0 f.1 (calls_of s budget)

@@ -22,7 +22,7 @@ use Rattle.replays.specs.Table.{marked, order_lines, Stands, Holds, start, enter
 use Rattle.replays.specs.Cuts.{Comes, EndsInMark, EndsInBody, in_header, in_enter, in_short, opening, entering, stepping, crashing, CutInside, EveryCutInside, EveryCutBetween}
 use Rattle.replays.proofs.Orders.{mark_other, enter_long, step_long, crash_long}
 use Rattle.replays.proofs.WholeFile.{calls_before, no_calls_of, whole_exactly}
-use Rattle.replays.proofs.Cuts.{lines_at, no_enter, one_record, enter-ends, short_ends, every-cut_exactly}
+use Rattle.replays.proofs.Cuts.{lines_at, no_enter, one_record, enter-ends, short_ends, every_cut_exactly}
 
 -- A record whose mark and body are there stands whole.
 module _ (s : List ℕ) (at : ℕ) where
@@ -89,10 +89,10 @@ module _ (s : List ℕ) (k : ℕ) (h : k ≤ length s) where
 -- What ends inside a record, and the calls before it.
 module _ (s : List ℕ) (budget : ℕ) (cs : List Call) (at k : ℕ) (h : k ≤ length s) (l : at < k) where
   one_left : EndsInMark (take k s) budget at → (file_number (replay_of (take k s) budget).answer ≡ 11) × ((replay_of (take k s) budget).place ≡ at)
-  one_left e = ((every-cut_exactly (take k s) budget).eleven at).1 e
+  one_left e = ((every_cut_exactly (take k s) budget).eleven at).1 e
 
   more_left : EndsInBody (take k s) budget → (file_number (replay_of (take k s) budget).answer ≡ 24) × ((replay_of (take k s) budget).place ≡ k)
-  more_left e = ((every-cut_exactly (take k s) budget).twenty_four k).1 (e, sym (short_length s k h))
+  more_left e = ((every_cut_exactly (take k s) budget).twenty_four k).1 (e, sym (short_length s k h))
 
   -- a later record, from its mark on
   module _ (g : Holds s at cs) (b : length cs < budget)
@@ -120,8 +120,8 @@ module _ (s : List ℕ) (budget : ℕ) (cs : List Call) (at k : ℕ) (h : k ≤ 
               (either (eqb k (at + 1)));
         }
 
-pub every-cut-inside : EveryCutInside
-every-cut-inside s budget cs at end k (opening z) b l m =
+pub every_cut_inside : EveryCutInside
+every_cut_inside s budget cs at end k (opening z) b l m =
     let w = header_stands s z in
     let h : k ≤ length s = omega (arith, w.long) in
     let long = short_length s k h in
@@ -131,7 +131,7 @@ every-cut-inside s budget cs at end k (opening z) b l m =
       more = λ e. more_left s budget [] 0 k h l (in_header (cut_header s w k (omega arith)));
       calls = no_calls_of (take k s) budget no;
     }
-every-cut-inside s budget cs at end k (entering g r) b l m =
+every_cut_inside s budget cs at end k (entering g r) b l m =
     let h : k ≤ length s = omega (arith, enter_long s at r) in
     let long = short_length s k h in
     later s budget cs at k h l g b
@@ -139,21 +139,21 @@ every-cut-inside s budget cs at end k (entering g r) b l m =
       in_enter c q (omega (arith, long)) (omega (arith, long)),
       enter-ends (take k s) budget at c q (omega (arith, long)) (omega (arith, long)),
     ))
-every-cut-inside s budget cs at end k (stepping g r) b l m =
+every_cut_inside s budget cs at end k (stepping g r) b l m =
     let h : k ≤ length s = omega (arith, step_long s at r) in
     let long = short_length s k h in
     later s budget cs at k h l g b
     (λ c e. let q = step_or (take k s) at (same_mark s k h at "ST" e ∙ r.mark) in
     (in_short c q (omega (arith, long)), short_ends (take k s) budget at c q (omega (arith, long))))
-every-cut-inside s budget cs at end k (crashing g r) b l m =
+every_cut_inside s budget cs at end k (crashing g r) b l m =
     let h : k ≤ length s = omega (arith, crash_long s at r) in
     let long = short_length s k h in
     later s budget cs at k h l g b
     (λ c e. let q = crash_or (take k s) at (same_mark s k h at "CR" e ∙ r.mark) in
     (in_short c q (omega (arith, long)), short_ends (take k s) budget at c q (omega (arith, long))))
 
-pub every-cut_between : EveryCutBetween
-every-cut_between s budget cs at g b =
+pub every_cut_between : EveryCutBetween
+every_cut_between s budget cs at g b =
     let h = held_inside g in
     (whole_exactly (take at s) budget cs).1
     (subst (λ (x : ℕ). Holds (take at s) x cs) (sym (short_length s at h)) (same_held s at h g (omega arith)), b)

@@ -65,16 +65,16 @@ numbered m b true true e f =
       written = λ h. (ap (λ (r : Written). r.bytes) (sym a.0), sym a.1);
     }
 
-pub every-write_numbered : EveryWriteNumbered
-every-write_numbered m b = numbered m b (shaped m) (leb (length (bytes_of m)) (length b)) refl refl
+pub every_write_numbered : EveryWriteNumbered
+every_write_numbered m b = numbered m b (shaped m) (leb (length (bytes_of m)) (length b)) refl refl
 
 -- the states on both sides of each clause of the shape
-pub every_clause-written : EveryClauseWritten
-every_clause-written e h =
+pub every_clause_written : EveryClauseWritten
+every_clause_written e h =
     record {
       broken = λ b.
-          let w = every-write_numbered e.broken b in
+          let w = every_write_numbered e.broken b in
           let one : write_number (write_of e.broken (length b)).answer ≡ 1 = w.one.1 (λ s. true≢false (sym s ∙ (both_sides e h).broken)) in
           (one, (w.nothing (λ z. omega arith)).1);
-      neighbour = λ b o. (every-write_numbered e.neighbour b).one.0 o (both_sides e h).neighbour;
+      neighbour = λ b o. (every_write_numbered e.neighbour b).one.0 o (both_sides e h).neighbour;
     }

@@ -113,5 +113,5 @@ all_ready =
     news_ready (p1 ++ p2 ++ p3 ++ p4 ++ p5 ++ p6 ++ p7) (p8 ++ refusals ++ others) refl
     ((2, crowded_meets), ((2, crowded_meets), ((2, lonely_meets), ((2, lonely_meets), news_ready (refusals ++ others) [] refl tt))))
 
-pub every-example-passes : EveryExamplePasses
-every-example-passes = all_bare table all_ready ∙ table_computes
+pub every_example_passes : EveryExamplePasses
+every_example_passes = all_bare table all_ready ∙ table_computes

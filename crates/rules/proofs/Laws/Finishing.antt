@@ -62,10 +62,10 @@ record FirstRefused (k : ℕ) (m : Machine) (p : ℕ) : Type 0 where
   made : accepted (steps_of steps m p) ≡ true
   next : steps_of k m p ≡ step_of (steps_of steps m p).machine p
 
-first-refused : (k : ℕ) (m : Machine) (p : ℕ) → accepted (steps_of k m p) ≡ false → FirstRefused k m p
+first_refused : (k : ℕ) (m : Machine) (p : ℕ) → accepted (steps_of k m p) ≡ false → FirstRefused k m p
 unfolding steps_of
-first-refused zero m p a = absurd (true≢false a)
-first-refused (suc k) m p a = go (accepted (step_of m p)) refl (first-refused k (step_of m p).machine p)
+first_refused zero m p a = absurd (true≢false a)
+first_refused (suc k) m p a = go (accepted (step_of m p)) refl (first_refused k (step_of m p).machine p)
   where
     go : (b : Bool) → accepted (step_of m p) ≡ b → (accepted (steps_of k (step_of m p).machine p) ≡ false → FirstRefused k (step_of m p).machine p)
         → FirstRefused (suc k) m p
@@ -181,7 +181,7 @@ how_alone m h p z = go e.how
         )
     go (inr t) =
         let off : accepted c ≡ false = ap (λ n. eqb (number_of n) 0) t in
-        let first = first-refused e.steps m p (sym (ap accepted e.equal) ∙ off) in
+        let first = first_refused e.steps m p (sym (ap accepted e.equal) ∙ off) in
         inr (
           record {
             steps = first.steps;
