@@ -1,7 +1,7 @@
 -- `cells_good` meets its contract: `ok` is the test over the registers passed.
 use mathlib.Core.Path.{◌≡◌, refl, ap}
 use mathlib.Core.Bool.{cond}
-use Prim.Native.Nat.{◌+◌, ◌-◌}
+use Prim.Native.Nat.{◌+◌}
 use lib.Dec.{leb, eqb}
 use lib.ListN.{get_or}
 use native.Mathlib.Omega.{arith}

@@ -12,8 +12,8 @@ use Rattle.shape.specs.Coded.Columns.{lowest_row, lows_of, ByRow}
 use Rattle.shape.proofs.Arrays.{Upto}
 use Rattle.shape.proofs.read_off.Given as goal
 
-abbrev pub low_at_lem : List Process → ℕ → ℕ
-low_at_lem ps k = lowest_row (get_or ps k nobody).stage
+abbrev pub low_at : List Process → ℕ → ℕ
+low_at ps k = lowest_row (get_or ps k nobody).stage
 
 abbrev pub own_at : List Process → ℕ → ℕ
 own_at ps k = (get_or ps k nobody).value
@@ -23,7 +23,7 @@ stands n filled ps p k = shaped_process n (row_in filled) p (get_or ps k nobody)
 
 abbrev pub invariant-loop-i : goal.invariant-loop-i
 invariant-loop-i l =
-    (l.i ≤ 32) × (length l.low ≡ 32) × (length l.own ≡ 32) × (length l.buckets ≡ 34) × Upto 33 (low_at_lem l.processes) l.low l.i × Upto 0 (own_at l.processes) l.own l.i
+    (l.i ≤ 32) × (length l.low ≡ 32) × (length l.own ≡ 32) × (length l.buckets ≡ 34) × Upto 33 (low_at l.processes) l.low l.i × Upto 0 (own_at l.processes) l.own l.i
     × ByRow (lows_of l.processes) l.i l.buckets × (l.good ≡ every l.i (λ p. stands l.n l.filled l.processes p (p - 1)))
 
 abbrev pub decreases-loop-i : goal.decreases-loop-i

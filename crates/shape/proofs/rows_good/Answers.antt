@@ -1,6 +1,6 @@
 -- `rows_good` meets its contract: `ok` is the test over the rows passed, and `written` the processes that have written the last of them.
 use mathlib.Core.Path.{◌≡◌, refl, sym, ap₂, ◌∙◌}
-use Prim.Native.Nat.{◌+◌, ◌-◌}
+use Prim.Native.Nat.{◌+◌}
 use native.Mathlib.Omega.{arith}
 use lib.Bits.{bit_or}
 use lib.ListN.{get_or}
@@ -26,7 +26,7 @@ loop-i-preserved c =
       omega arith,
       every_place (λ x k. row_good a.n a.values.now a.low.now a.own.now (get_or a.filled.now k 0) x) l.i c.row_good-good.ensures
           l.invariant.1,
-      (row_good-good-requires c.before c.row_good-good.lifetimes).2,
+      ap₂ bit_or l.invariant.2 (c.requires.2.at (l.i + 1) (omega arith)) ∙ writers_more a.low.now l.i,
     )
 
 pub returns : goal.returns
