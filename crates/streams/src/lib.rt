@@ -1,4 +1,4 @@
-// Standard input read to its end, and a text written whole to standard output, over C's read and write. A call that a signal interrupts is made
+// Standard input read to its end, and a text written whole to standard output, over the system's read and write. A call that a signal interrupts is made
 // again; a failure is told on standard error, where a failed read is no end of the input. Both loops count their turns, since nothing says that
 // interruptions end; no run uses so many up.
 #![tactic(auto)]
@@ -6,7 +6,11 @@
 ghost use Rattle.std.specs.Prelude.{◌≡◌, ◌≤◌, length};
 ghost use Rattle.streams.specs.Outcomes.{outcome_of, Within};
 
-use libc::{STDIN_FILENO, STDOUT_FILENO};
+use std::io;
+use std::io::{ErrorKind, Read, Write};
+
+// The error of a call that a signal interrupted before it moved a byte.
+const EINTR: i32 = 4;
 
 // What one call of read or write came to.
 #[derive(Clone, Copy)]
@@ -34,63 +38,78 @@ fn outcome_of(moved: isize, error: i32) -> Outcome
     if moved == 0 {
         return Outcome::Nothing;
     }
-    if error == libc::EINTR {
+    if error == EINTR {
         return Outcome::Interrupted;
     }
     Outcome::Failed
 }
 
+// The same of a call's result: its answer is -1 where it failed.
+fn came_to(got: &io::Result<usize>) -> Outcome {
+    match got {
+        Ok(moved) => outcome_of(isize::try_from(*moved).unwrap_or(isize::MAX), 0),
+        Err(e) => outcome_of(-1, e.raw_os_error().unwrap_or(0)),
+    }
+}
+
+// Says on standard error what failed, and why.
+fn fail(rt: &impl Eprint, what: &str, got: io::Result<usize>) {
+    let _ = match got {
+        Ok(_) => eprintln!(rt; "{what}: no byte was taken"),
+        Err(e) => eprintln!(rt; "{what}: {e}"),
+    };
+}
+
 // Standard input could not be read: says so.
-fn unread() -> Input
+fn unread(rt: &impl Eprint, got: io::Result<usize>) -> Input
     ensures { result ≡ Input.Unread }
 {
-    os::fail(b"standard input cannot be read");
+    fail(rt, "standard input cannot be read", got);
     Input::Unread
 }
 
 // Reads standard input until it ends or the buffer is full.
-pub fn read_input(buffer: &mut [u8]) -> Input
+pub fn read_input(rt: &(impl io::Input + Eprint), buffer: &mut [u8]) -> Input
     ensures { Within result buffer.new }
 {
+    let mut stdin = rt.reader();
     let mut done: usize = 0;
-    let mut turns = u64::MAX;
-    while 0 < turns {
-        turns -= 1;
+    for _ in 0..u64::MAX {
         if buffer.len() <= done {
             return Input::Bytes(done);
         }
-        let moved = libc::read(STDIN_FILENO, &mut buffer[done..]);
-        match outcome_of(moved, os::errno()) {
+        let got = stdin.read(&mut buffer[done..]);
+        match came_to(&got) {
             Outcome::Moved => {
-                done += io::count(moved, &buffer[done..]);
+                done += got.unwrap_or(0);
             }
             Outcome::Nothing => {
                 return Input::Bytes(done);
             }
             Outcome::Interrupted => {}
             Outcome::Failed => {
-                return unread();
+                return unread(rt, got);
             }
         }
     }
-    unread()
+    unread(rt, Err(ErrorKind::Interrupted.into()))
 }
 
 // Writes the text to standard output; answers how many bytes of it were written: fewer than all only after a failure.
-pub fn write_output(text: &[u8]) -> usize
+pub fn write_output(rt: &(impl Print + Eprint), text: &[u8]) -> usize
     ensures { result ≤ length text.now }
 {
+    let mut stdout = io::writer(rt);
     let mut written: usize = 0;
-    let mut turns = u64::MAX;
-    while 0 < turns {
-        turns -= 1;
+    let mut last = Err(ErrorKind::Interrupted.into());
+    for _ in 0..u64::MAX {
         if text.len() <= written {
             return written;
         }
-        let moved = libc::write(STDOUT_FILENO, &text[written..]);
-        match outcome_of(moved, os::errno()) {
+        last = stdout.write(&text[written..]);
+        match came_to(&last) {
             Outcome::Moved => {
-                written += io::count(moved, &text[written..]);
+                written += last.unwrap_or(0);
             }
             Outcome::Nothing => {
                 break;
@@ -101,6 +120,6 @@ pub fn write_output(text: &[u8]) -> usize
             }
         }
     }
-    os::fail(b"standard output cannot be written");
+    fail(rt, "standard output cannot be written", last);
     written
 }
