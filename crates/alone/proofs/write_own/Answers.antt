@@ -11,11 +11,11 @@ returns-then-made-eq0 c =
     let a = c.args in
     let r : Registers = record { filled = a.filled.now; values = a.values.now } in
     let e = sym (written-first r a.level a.p a.value a.made c.if-made-eq0.true) in
-    (ap (set a.filled.now (a.level - 1)) c.plus.ensures ∙ ap (λ (q : Registers). q.filled) e, ap (λ (q : Registers). q.values) e)
+    record { fills = ap (set a.filled.now (a.level - 1)) c.plus.ensures ∙ ap (λ (q : Registers). q.filled) e; stores = ap (λ (q : Registers). q.values) e }
 
 pub returns-else-made-eq0 : goal.returns-else-made-eq0
 returns-else-made-eq0 c =
     let a = c.args in
     let r : Registers = record { filled = a.filled.now; values = a.values.now } in
     let e = sym (written_later r a.level a.p a.value a.made c.if-made-eq0.false) in
-    (ap (λ (q : Registers). q.filled) e, ap (λ (q : Registers). q.values) e)
+    record { fills = ap (λ (q : Registers). q.filled) e; stores = ap (λ (q : Registers). q.values) e }

@@ -1,6 +1,6 @@
 -- `view_values` meets its contract: below i the array holds what the registers show.
 use mathlib.Core.Path.{◌≡◌, refl, subst, subst⁻¹, ◌∙◌}
-use Prim.Native.Nat.{ℕ, ◌-◌, ◌<◌}
+use Prim.Native.Nat.{ℕ, ◌<◌}
 use native.Mathlib.Omega.{arith}
 use lib.ListN.{length-set}
 use Rattle.shape.proofs.Arrays.{Upto, upto_none, upto_more}
