@@ -204,6 +204,7 @@ fn finding_number(k: Finding) -> u32
 }
 
 // The verdict of a file: number, place, i and j, with the file's own numbers first.
+#[tactic(auto, unfolding(findings::specs::Verdict::verdict_of))]
 pub fn verdict(s: &[u8]) -> FileVerdict
     ensures { result ≡ verdict_of s.now }
 {

@@ -246,7 +246,10 @@ header_is s =
     (λ t. let z : length s ≤ 0 = omega (arith, eqb-true (length s) 0 t) in le-leb (length s) 0 z) in
     let push : (a b : Bool)
     → header_by s (cond a Mark.End (cond b Mark.Cut m)) ≡ cond a (Header.Fault NotHeader) (cond b (Header.Fault MarkCut) (header_by s m))
-    = λ a b. elim a [ true ↦ refl | false ↦ elim b [ true ↦ refl | false ↦ refl ] ] in
+    = λ a b. elim a as (λ (a : Bool). header_by s (cond a Mark.End (cond b Mark.Cut m)) ≡ cond a (Header.Fault NotHeader) (cond b (Header.Fault MarkCut) (header_by s m))) [
+      | true ↦ refl
+      | false ↦ elim b as (λ (b : Bool). header_by s (cond b Mark.Cut m) ≡ cond b (Header.Fault MarkCut) (header_by s m)) [ true ↦ refl | false ↦ refl ]
+    ] in
     push (leb (length s) 0) (eqb (length s) 1)
     ∙ ap₂ (λ (a : Bool) (r : Header). cond a (Header.Fault NotHeader) (cond (eqb (length s) 1) (Header.Fault MarkCut) r)) none
     (header_by_lem s (byte_at s 0) (byte_at s 1))

@@ -6,7 +6,7 @@ use seplogic.Ra.Ura.{Ura}
 use lib.Dec.{lit<}
 use mir.Syntax.{w8}
 use base.Logic.{ent, sep, guard}
-use base.Fml.{Lft, GName, Share, flft}
+use base.Fml.{Lft, Share, flft}
 use types.Logic.{Logic, sem}
 use types.Kit.{◌$◌, !, ‵, ◌⊛◌, qed, use2, given, learn, check, split, later, await, updating, now, done}
 use borrow.Table.Referent.{f_int}
@@ -28,13 +28,13 @@ all_bytes : (s : List ℕ) → AllWt (f_int w8) s → Bytes s
 all_bytes s a = slice_bytes s (fit_at (f_int w8) 0 (record { fits = lit< tt }) s a)
 
 -- It is given because owning a `&[u8]` says so while its lifetime lasts, on every memory: what is owned can be had with `Bytes`.
-module _ {M : Type 1} {𝓤 : Ura M} (𝓛 : Logic 𝓤) (κ : Lft) (q : Share) (b o : ℕ) (γ : GName) (s : List ℕ) where
+module _ {M : Type 1} {𝓤 : Ura M} (𝓛 : Logic 𝓤) (κ : Lft) (q : Share) (b o : ℕ) (s : List ℕ) where
   open 𝓛 use {H, A}
 
-  pub shared_slice_holds-bytes : ent 𝓤 (sep 𝓤 (sem 𝓛 (OwnH 𝓛 (f_int w8) κ q b o γ s)) (A.lft κ q))
-      (H.⇛ (guard 𝓤 (Bytes s) (sep 𝓤 (sem 𝓛 (OwnH 𝓛 (f_int w8) κ q b o γ s)) (A.lft κ q))))
+  pub shared_slice_holds-bytes : ent 𝓤 (sep 𝓤 (sem 𝓛 (OwnH 𝓛 (f_int w8) κ q b o s)) (A.lft κ q))
+      (H.⇛ (guard 𝓤 (Bytes s) (sep 𝓤 (sem 𝓛 (OwnH 𝓛 (f_int w8) κ q b o s)) (A.lft κ q))))
   shared_slice_holds-bytes =
-      qed 𝓛 (‵ (OwnH 𝓛 (f_int w8) κ q b o γ s) ∷ ‵ (flft κ q) ∷ [])
-      {P = H.⇛ (guard 𝓤 (Bytes s) (sep 𝓤 (sem 𝓛 (OwnH 𝓛 (f_int w8) κ q b o γ s)) (A.lft κ q)))} (
-      updating ! $ use2 𝓛 (later (given (AllWt (f_int w8) s) (‵ (OwnH 𝓛 (f_int w8) κ q b o γ s) ⊛ ‵ (flft κ q))))
-      (shs_known 𝓛 (f_int w8) κ q b o γ s) $ await ! tt $ learn ! (λ a. now ! $ check ! (all_bytes s a) $ split ! $ done !))
+      qed 𝓛 (‵ (OwnH 𝓛 (f_int w8) κ q b o s) ∷ ‵ (flft κ q) ∷ [])
+      {P = H.⇛ (guard 𝓤 (Bytes s) (sep 𝓤 (sem 𝓛 (OwnH 𝓛 (f_int w8) κ q b o s)) (A.lft κ q)))} (
+      updating ! $ use2 𝓛 (later (given (AllWt (f_int w8) s) (‵ (OwnH 𝓛 (f_int w8) κ q b o s) ⊛ ‵ (flft κ q))))
+      (shs_known 𝓛 (f_int w8) κ q b o s) $ await ! tt $ learn ! (λ a. now ! $ check ! (all_bytes s a) $ split ! $ done !))

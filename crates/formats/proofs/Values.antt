@@ -58,7 +58,7 @@ module _ (s : List ℕ) (from p w : ℕ) (values : List ℕ) where
   values_length zero = refl
   values_length (suc k) =
       let go : (b : Bool) (l : List ℕ) (c x : ℕ) → length (cond b (set l c x) l) ≡ length l
-      = λ b l c x. elim b [ true ↦ length-set l c x | false ↦ refl ] in
+      = λ b l c x. elim b as (λ b. length (cond b (set l c x) l) ≡ length l) [ true ↦ length-set l c x | false ↦ refl ] in
       go (has w (suc k)) (values_read s from p w k values) (cell p (suc k)) (word_at s (from + 4 * count (has w) k)) ∙ values_length k
 
   -- a place that no member up to k has

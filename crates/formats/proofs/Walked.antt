@@ -1,7 +1,7 @@
 -- The definition of reading and the table walk a file alike: the places that the definition comes to are the table's, with the views that the
 -- records before them carry.
 use Prim.Native.Nat.{ℕ, ◌+◌, ◌-◌, ◌*◌, ◌≤◌, ◌<◌}
-use mathlib.Core.Bool.{Bool, true, false, ◌||◌, true≢false, or_true}
+use mathlib.Core.Bool.{Bool, true, false, ◌||◌, true≢false, or-true}
 use mathlib.Core.Path.{◌≡◌, refl, sym, ap, ◌∙◌, subst}
 use mathlib.Core.Logic.{◌≢◌, ⊎_elim}
 use mathlib.Core.List.Memᴰ
@@ -39,7 +39,7 @@ viewed_in s [] m = absurd (Memᴰ.not-nil m)
 viewed_in s {at} (b ∷ places) m =
     ⊎_elim
     (λ e. ap (λ (t : Bool). t || viewed s (process_at s at) places) (eq-eqb (process_at s b) (process_at s at) (ap (process_at s) (sym e))))
-    (λ m. ap (λ (t : Bool). eqb (process_at s b) (process_at s at) || t) (viewed_in s places m) ∙ or_true (eqb (process_at s b) (process_at s at)))
+    (λ m. ap (λ (t : Bool). eqb (process_at s b) (process_at s at) || t) (viewed_in s places m) ∙ or-true (eqb (process_at s b) (process_at s at)))
     (Memᴰ.cases_cons m)
 
 pub in_viewed : (s : List ℕ) (p : ℕ) (places : List ℕ) → viewed s p places ≡ true → (at : ℕ) × Memᴰ at places × (process_at s at ≡ p)
