@@ -22,7 +22,7 @@ use Rattle.rules.proofs.Laws.Table.{table_of_numbers}
 use Rattle.rules.proofs.Laws.Steps.{steps_on, steps_off}
 use Rattle.rules.proofs.Laws.Accesses.{accesses_of_calls}
 use Rattle.rules.proofs.Laws.Finishing.{finishes_unless_sticks, finishing_alone}
-use Rattle.history.specs.Runs.{Call, steps, crashes, answer, machine_taker, from, runs, tally, accepted_step_of, accepted_steps}
+use Rattle.history.specs.Runs.{Call, steps, crashes, machine_taker, from, runs, tally, accepted_step_of, accepted_steps}
 use Rattle.history.specs.Theorems.{AloneNeverOneNorSeven, FinishesAlone, AloneFinishes, WaitFree}
 use Rattle.world.proofs.Laws.{leaves-append, counts-append}
 use Rattle.history.proofs.Moves.{every_state_shaped}

@@ -6,7 +6,7 @@ use Prim.Native.Nat.{ℕ, ◌+◌, ◌-◌, ◌≤◌}
 use native.Mathlib.Omega.{arith}
 use lib.Dec.{leb, eqb}
 use borrow.Author.Tests.{leb-true, eq-eqb, ne_eqb, eqb-true}
-use Rattle.sets.specs.Members.{has, count, size}
+use Rattle.sets.specs.Members.{has, count}
 use Rattle.sets.proofs.Laws.{count_one_less}
 use Rattle.rules.specs.declared.Stage.{Stage}
 use Rattle.rules.specs.declared.Stage.TheVariants.{Absent, Running, Finished, Crashed}
@@ -26,7 +26,6 @@ use Rattle.history.specs.Runs.{Call, enters, steps, crashes, answer, runs}
 use Rattle.world.specs.Programs.{accesses}
 use Rattle.history.specs.AsWorld.{program_at, program_of}
 use Rattle.history.specs.Theorems.{NeverOneNorSeven}
-use Rattle.history.proofs.Moves.{every_state_shaped}
 use Rattle.history.proofs.Figure.{program_goes}
 use Rattle.history.proofs.Invariant.{MissedNothing, Inv, in_row, row_most, all_found, made_entered, inv_runs}
 

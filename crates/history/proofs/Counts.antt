@@ -1,13 +1,12 @@
 -- The accepted steps of a process, counted from the list, are the accesses of rule 7; and how the counts of a list hang together.
 use mathlib.Core.Path.{◌≡◌, refl, sym, ap, subst, ◌∙◌}
 use mathlib.Core.Logic.{◌⊎◌, inl, inr, ◌≢◌}
-use mathlib.Core.Bool.{Bool, true, false, not, ◌&&◌, true≢false, and-false}
+use mathlib.Core.Bool.{Bool, true, false, ◌&&◌, true≢false, and-false}
 use mathlib.Core.List.{List, [], ◌∷◌}
 use Prim.Native.Nat.{ℕ, zero, suc, ◌+◌, ◌-◌, ◌*◌, ◌≤◌, ◌<◌}
 use native.Mathlib.Nat.{mul-suc, mul_comm, mul-le-mul_left, mul-le-mul_right}
 use native.Mathlib.Omega.{arith}
 use lib.Dec.{eqb}
-use lib.ListN.{length}
 use borrow.Author.Tests.{eq-eqb, ne_eqb}
 use Rattle.sets.specs.Members.{tick, size}
 use Rattle.rules.specs.declared.Stage.{Stage}

@@ -1,5 +1,5 @@
 -- Demand 3 of Fig. 8.16, from the machine's: the machine is the figure's world after every list of calls.
-use mathlib.Core.Path.{◌≡◌, refl, sym, ap, ap₂, subst, ◌∙◌}
+use mathlib.Core.Path.{◌≡◌, refl, sym, ap, subst, ◌∙◌}
 use mathlib.Core.Logic.{◌⊎◌, inl, inr, ◌≢◌}
 use mathlib.Core.Bool.{Bool, true, false, ◌||◌, cond, true≢false, false≢true}
 use mathlib.Core.List.{List, [], ◌∷◌, ◌++◌, Memᴰ}
@@ -7,8 +7,7 @@ use Prim.Native.Nat.{ℕ, zero, suc, ◌+◌, ◌-◌, ◌*◌, ◌≤◌}
 use native.Mathlib.Omega.{arith}
 use lib.Dec.{eqb}
 use lib.ListN.{length, replicate}
-use borrow.Author.Tests.{eq-eqb, ne_eqb, eqb-true}
-use Rattle.sets.specs.Members.{count, size}
+use borrow.Author.Tests.{eqb-true}
 use Rattle.sets.specs.Immediate.{Inside, Immediate}
 use Rattle.sets.proofs.Laws.{same_truth, count_mono}
 use Rattle.rules.specs.declared.Stage.{Stage}
@@ -20,20 +19,20 @@ use Rattle.rules.proofs.Laws.Effects.{effects_of_calls}
 use Rattle.rules.proofs.Laws.Keeps.{every_state_meets}
 use Rattle.rules.proofs.Laws.Small.{or_true, or_left, or_right}
 use Rattle.rules.specs.Stands.{stage_of, value_of, row_of, entered}
-use Rattle.rules.specs.State.{finished, crashed, level_of, found_of}
-use Rattle.rules.specs.Shape.{Going, ShapedStage}
+use Rattle.rules.specs.State.{finished, crashed, level_of}
+use Rattle.rules.specs.Shape.{ShapedStage}
 use Rattle.rules.specs.Calls.{fresh}
 use Rattle.rules.specs.Statements.{Meets}
-use Rattle.world.specs.Programs.{writes, reads, returns, halted, accesses}
-use Rattle.world.specs.Calls.{Call, enters, steps, crashes, counts, ever, deposits}
-use Rattle.world.specs.World.{World, start, among, world_taker}
+use Rattle.world.specs.Programs.{returns, halted, accesses}
+use Rattle.world.specs.Calls.{Call, steps, crashes, counts, ever, deposits}
+use Rattle.world.specs.World.{among, world_taker}
 use Rattle.world.proofs.Follows.{same-counts, same-ever, same-deposits}
 use Rattle.history.specs.Runs.{machine_taker, runs, accepted_step_of, accepted_steps, at_level, reached, given, after}
 use Rattle.history.specs.Figure.{Pair, Code, figure}
 use Rattle.history.specs.AsWorld.{program_at, program_of, world_of}
 use Rattle.history.specs.Views.{Has, View}
 use Rattle.history.specs.Theorems.{ReachedIsBegun}
-use Rattle.history.specs.Demand.{figure_runs, accesses_made, deposited, in_row, begun, Returned, InView, DemandThree, EveryRunDemandThree}
+use Rattle.history.specs.Demand.{figure_runs, accesses_made, deposited, in_row, begun, Returned, InView, EveryRunDemandThree}
 use Rattle.history.proofs.Moves.{meets_after, every_state_shaped, nobody_yet, Stepped, writing, finding, ending, falling, stepped, by_call}
 use Rattle.history.proofs.Levels.{at_most_x_reach_x}
 use Rattle.history.proofs.World.{OfRuns, machine_follows, of_runs, fresh_world, same_remains, every_run_is_figure, among_of, low_of, high_of}

@@ -1,12 +1,10 @@
 -- The printed run, computed on the world of Fig. 8.16, which the machine follows.
-use mathlib.Core.Path.{◌≡◌, refl, sym, ap, ◌∙◌}
+use mathlib.Core.Path.{◌≡◌, refl, ap, ◌∙◌}
 use mathlib.Core.Bool.{Bool, true, false}
 use mathlib.Core.List.{List, [], ◌∷◌}
 use Prim.Native.Nat.{ℕ, ◌≤◌}
 use lib.Dec.{lit≤}
-use Rattle.rules.specs.declared.Machine.{Machine}
 use Rattle.rules.specs.Calls.{fresh}
-use Rattle.world.specs.Programs.{accesses}
 use Rattle.world.specs.Calls.{leaves, counts, ever, deposits}
 use Rattle.world.specs.Counts.{admits}
 use Rattle.world.specs.World.{World, start, world_taker}

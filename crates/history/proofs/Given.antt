@@ -1,6 +1,6 @@
 -- The value of a process is the one that the list of calls gave it at its accepted enter, and it has entered exactly if there was one.
 use mathlib.Core.Path.{◌≡◌, refl, sym, ap, ◌∙◌}
-use mathlib.Core.Bool.{Bool, true, false, ◌&&◌, ◌||◌, cond, or_true, or-false, or_assoc}
+use mathlib.Core.Bool.{Bool, true, false, ◌&&◌, ◌||◌, cond, or-true, or-false, or_assoc}
 use mathlib.Core.List.{List, [], ◌∷◌}
 use Prim.Native.Nat.{ℕ, suc, ◌≤◌}
 use native.Mathlib.Omega.{arith}
@@ -78,7 +78,7 @@ enters_once n m M p lp =
     ap (λ P. entered P.stage) e ∙ sym (ap (λ b. entered (stage_of m p) || b) (not_entering m p c o) ∙ or-false (entered (stage_of m p))))
     (λ v a.
     ap entered (effects_of_calls.enter m M.held p v a).stage
-    ∙ sym (ap (λ b. entered (stage_of m p) || b) (ap (λ b. b && accepted (enter_of m p v)) (eq-eqb p p refl) ∙ a) ∙ or_true (entered (stage_of m p))))
+    ∙ sym (ap (λ b. entered (stage_of m p) || b) (ap (λ b. b && accepted (enter_of m p v)) (eq-eqb p p refl) ∙ a) ∙ or-true (entered (stage_of m p))))
     (λ a. let f = step_falls m (step_of m p).machine p (stepped m M.held p a) in f.1 ∙ sym (ap (λ b. b || false) f.0))
     (λ a.
     crashed-entered (stage_of (crash_of m p).machine p) (effects_of_calls.crash m M.held p a).never_moves

@@ -2,11 +2,11 @@
 use mathlib.Core.Path.{◌≡◌, refl, sym, ap, subst, ◌∙◌}
 use mathlib.Core.Logic.{◌⊎◌, inl, inr}
 use mathlib.Core.Bool.{Bool, true, ◌&&◌}
-use mathlib.Core.List.{List, [], ◌∷◌, ◌++◌}
+use mathlib.Core.List.{List, [], ◌∷◌}
 use Prim.Native.Nat.{ℕ, ◌-◌, ◌≤◌}
 use native.Mathlib.Omega.{arith}
 use lib.Dec.{leb, eqb}
-use borrow.Author.Tests.{leb-true, le-leb, eqb-true, eq-eqb}
+use borrow.Author.Tests.{leb-true, le-leb, eqb-true}
 use Rattle.sets.specs.Members.{count}
 use Rattle.sets.proofs.Laws.{count_mono}
 use Rattle.rules.specs.declared.Stage.{Stage}
@@ -16,7 +16,7 @@ use Rattle.rules.specs.Stands.{stage_of, entered}
 use Rattle.rules.specs.State.{crashed, level_of}
 use Rattle.rules.specs.Calls.{fresh, step_of, crash_of}
 use Rattle.rules.specs.Statements.{Meets}
-use Rattle.rules.proofs.Laws.Small.{not_both, and_first, and_second, both, or_true, or_left, or_right}
+use Rattle.rules.proofs.Laws.Small.{not_both, and_first, and_second, both, or_true}
 use Rattle.rules.proofs.Laws.Did.{what_calls_did}
 use Rattle.rules.proofs.Laws.Keeps.{every_state_meets}
 use Rattle.rules.proofs.Laws.Effects.{effects_of_calls}

@@ -1,9 +1,9 @@
 -- A run of the machine is a run of Fig. 8.16: an accepted call of the machine is the same call of the figure's world, and both accept the same calls.
-use mathlib.Core.Path.{◌≡◌, refl, sym, ap, ap₂, subst, fun_ext, ◌∙◌}
+use mathlib.Core.Path.{◌≡◌, refl, sym, ap, ap₂, subst, ◌∙◌}
 use mathlib.Core.Logic.{◌⊎◌, inl, inr, ◌≢◌}
 use mathlib.Core.Bool.{Bool, true, false, not, ◌&&◌, cond, true≢false, false≢true}
 use mathlib.Core.List.{List}
-use Prim.Native.Nat.{ℕ, zero, suc, ◌+◌, ◌-◌, ◌≤◌, ◌<◌}
+use Prim.Native.Nat.{ℕ, zero, suc, ◌-◌, ◌≤◌}
 use native.Mathlib.Omega.{arith}
 use lib.Dec.{leb, eqb}
 use borrow.Author.Tests.{leb-true, le-leb, eq-eqb, ne_eqb, eqb-true}
@@ -12,9 +12,9 @@ use Rattle.rules.specs.declared.Stage.TheVariants.{Absent, Running, Finished, Cr
 use Rattle.rules.specs.declared.Machine.{Machine}
 use Rattle.rules.specs.declared.Process.{Process}
 use Rattle.rules.specs.Stands.{process_of, stage_of, value_of, row_of, cell_of, entered}
-use Rattle.rules.specs.Shape.{Held, Going, ShapedStage, Shaped}
+use Rattle.rules.specs.Shape.{Held, ShapedStage, Shaped}
 use Rattle.rules.specs.Calls.{accepted, fresh, enter_of, step_of, crash_of}
-use Rattle.rules.specs.Statements.{Meets, Valid}
+use Rattle.rules.specs.Statements.{Valid}
 use Rattle.rules.proofs.Laws.Small.{and_first, and_second, equal_or_not, is_false}
 use Rattle.rules.proofs.Laws.Shape.{shaped_record, record_shaped}
 use Rattle.rules.proofs.Laws.Did.{running, what_calls_did, what_calls_do}
@@ -25,7 +25,7 @@ use Rattle.world.specs.Calls.{leaves}
 use Rattle.world.specs.World.{World, start, among, changed, takes, does, world_taker}
 use Rattle.world.proofs.Follows.{Follows, kept, same-leaves}
 use Rattle.history.specs.Runs.{Call, enters, steps, crashes, answer, after, machine_taker, runs}
-use Rattle.history.specs.Figure.{Address, REG, same_address, Pair, Code, update_snapshot, figure}
+use Rattle.history.specs.Figure.{Address, REG, same_address, Code, update_snapshot, figure}
 use Rattle.history.specs.AsWorld.{register, program_at, program_of, world_of}
 use Rattle.history.specs.Theorems.{FiguresCall, CallIsFigures}
 use Rattle.history.specs.IsFigure.{EveryRunIsFigure}

@@ -1,5 +1,5 @@
 -- A machine as a world of Fig. 8.16: its registers, and what of the figure each of its processes has yet to do.
-use Rattle.std.specs.Prelude.{Bool, true, false, ◌&&◌, cond, List, [], ◌∷◌, ◌++◌, ℕ, zero, suc, ◌-◌}
+use Rattle.std.specs.Prelude.{false, ◌&&◌, cond, List, [], ◌∷◌, ◌++◌, ℕ, zero, suc, ◌-◌}
 use Rattle.sets.specs.Members.{has}
 use Rattle.rules.specs.declared.Stage.{Stage}
 use Rattle.rules.specs.declared.Stage.TheVariants.{Absent, Running, Finished, Crashed}

@@ -1,16 +1,15 @@
 -- What holds of lists of calls, as statements that proofs/Theorems proves: demand 3; demand 2's sentences on calls in the terms of Fig. 8.16; what a look
 -- shows; and document 01's rules 2, 6 and 7 and numbers 1 and 7 over a whole run.
-use Rattle.std.specs.Prelude.{◌≡◌, ◌⊎◌, ◌↔◌, ◌≢◌, Bool, true, false, ℕ, zero, suc, ◌+◌, ◌-◌, ◌*◌, ◌≤◌, length, get_or, replicate}
+use Rattle.std.specs.Prelude.{◌≡◌, ◌⊎◌, ◌↔◌, ◌≢◌, true, false, ℕ, zero, suc, ◌+◌, ◌-◌, ◌*◌, ◌≤◌, length, get_or, replicate}
 use mathlib.Core.List.{List, ◌++◌, Memᴰ}
 use Rattle.sets.specs.Members.{has, count, size}
 use Rattle.sets.specs.Sets.{within}
 use Rattle.sets.specs.Immediate.{Immediate}
 use Rattle.rules.specs.declared.Machine.{Machine}
-use Rattle.rules.specs.declared.Called.{Called}
-use Rattle.rules.specs.Stands.{process_of, stage_of, value_of, entered}
+use Rattle.rules.specs.Stands.{process_of, stage_of, entered}
 use Rattle.rules.specs.State.{finished, crashed, found_of, accesses_of}
 use Rattle.rules.specs.Shape.{Held, Shaped}
-use Rattle.rules.specs.Calls.{number_of, accepted, fresh, enter_of, step_of, crash_of, finish_of, look_of}
+use Rattle.rules.specs.Calls.{number_of, accepted, finish_of, look_of}
 use Rattle.rules.specs.Statements.{Meets}
 use Rattle.world.specs.Programs.{holds, returns}
 use Rattle.world.specs.World.{takes, does}

@@ -22,7 +22,6 @@ use Rattle.findings.specs.Verdict.{verdict_of}
 use Rattle.replays.specs.declared.Replayed.{Replayed}
 use Rattle.replays.specs.Replays.{Orders, orders_from, replayed, replay_by, replay_of}
 use Rattle.replays.specs.Examples.{printed_file}
-use Rattle.replays.proofs.Promises.{refused_header}
 use Rattle.text.specs.Ascii.{ascii}
 use Rattle.text.specs.Decimal.{digits_in, decimal}
 use Rattle.text.specs.Parts.{joined}

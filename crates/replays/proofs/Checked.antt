@@ -33,7 +33,7 @@ use Rattle.findings.specs.Properties as properties
 use Rattle.findings.proofs.Accepts.{accepts_exactly}
 use Rattle.findings.proofs.FirstBreak.{yes_is_no_finding}
 use Rattle.findings.proofs.Verdicts.{read_then_checked}
-use Rattle.replays.specs.Replays.{ended, replay_of, calls_of, processes_of}
+use Rattle.replays.specs.Replays.{replay_of, calls_of, processes_of}
 use Rattle.replays.specs.OrderFile.{FileCalls}
 use Rattle.replays.specs.Writes.{views_of, bytes_of}
 use Rattle.replays.specs.Promises.{Accepted, EveryRunAccepted, EveryFileAccepted, DemandThree}
