@@ -9,12 +9,7 @@ use Rattle.rules.specs.declared.Answer.{Answer}
 use Rattle.rules.specs.declared.Answer.TheVariants.{Done, NotShaped, NoProcess, EnteredBefore, NeverEntered, HasCrashed, HasFinished, NoLevelBelow, OutOfRange}
 use Rattle.rules.specs.Calls.{number_of}
 use Rattle.rules.specs.contracts.Answer.{the_type}
-use borrow.Author.Rules.{rules}
-use Rattle.orders.proofs.accepted.Statement.{statement}
-use Rattle.orders.proofs.accepted.Tie as tie
-
-enum_told : tie.Need-enum-told
-enum_told c = search rules
+use Rattle.orders.proofs.accepted.Goals as goal
 
 refused : (a : Answer) → OneOf (1 ∷ 2 ∷ 3 ∷ 4 ∷ 5 ∷ 6 ∷ 7 ∷ 8 ∷ []) (tag_of the_type a) → false ≡ eqb (number_of a) 0
 refused Done h = absurd (miss (1 ∷ 2 ∷ 3 ∷ 4 ∷ 5 ∷ 6 ∷ 7 ∷ 8 ∷ []) 0 tt h)
@@ -27,11 +22,8 @@ refused HasFinished h = refl
 refused NoLevelBelow h = refl
 refused OutOfRange h = refl
 
-returns : tie.Need-returns
-returns c = ap (λ (x : Answer). eqb (number_of x) 0) (sym c.enum_told.given.1)
+pub returns-in-Done : goal.returns-in-Done
+returns-in-Done c = ap (λ (x : Answer). eqb (number_of x) 0) (sym c.in-Done.is)
 
-returns-2 : tie.Need-returns-2
-returns-2 c = refused c.before.args.a c.match.keys2
-
-pub accepted_spec : {M : Type 1} → statement M
-accepted_spec = tie.close (tie.spec enum_told returns returns-2)
+pub returns-in_default : goal.returns-in_default
+returns-in_default c = refused c.args.a c.in_default.keys2
