@@ -4,12 +4,9 @@ use mathlib.Core.Bool.{Bool, true, false, cond}
 use mathlib.Core.Path.{◌≡◌, refl, sym, ap, ap₂, ◌∙◌, subst}
 use mathlib.Core.List.{List, [], ◌∷◌, ◌++◌}
 use native.Mathlib.Omega.{arith}
-use types.Run.{OneOf, miss}
-use denote.Enum.Declared.{tag_of}
 use lib.ListN.{length, get_or, set, length-append}
 use Rattle.sets.specs.Members.{has, count, size, tick}
 use Rattle.sets.proofs.Laws.{count_le}
-use Rattle.rules.specs.contracts.Stage.{the_type}
 use Rattle.rules.specs.declared.Stage.{Stage}
 use Rattle.rules.specs.declared.Stage.TheVariants.{Absent, Running, Finished, Crashed}
 use Rattle.rules.specs.declared.Machine.{Machine}
@@ -146,13 +143,13 @@ put_record values b b₁ b₂ b₃ at p x w e f g =
     ∙ sym (put-append b at (86 ∷ 87 ∷ p ∷ []) (word_bytes w ++ J))
 
 -- a process that has not finished has no record
-pub unfinished : (values : List ℕ) (p : ℕ) (s : Stage) → OneOf (0 ∷ 1 ∷ 3 ∷ []) (tag_of the_type s) → (0 ≡ record_length s) × ([] ≡ stage_bytes values p s)
+pub unfinished : (values : List ℕ) (p : ℕ) (s : Stage) → ((x w : ℕ) → s ≡ Finished x w → ⊥) → (0 ≡ record_length s) × ([] ≡ stage_bytes values p s)
 unfinished values p Absent h = (refl, refl)
 unfinished values p (Running x k f) h = (refl, refl)
-unfinished values p (Finished x w) h = absurd (miss (0 ∷ 1 ∷ 3 ∷ []) 2 tt h)
+unfinished values p (Finished x w) h = absurd (h x w refl)
 unfinished values p (Crashed x k f) h = (refl, refl)
 
-pub no_record : (values b : List ℕ) (at p : ℕ) (s : Stage) → OneOf (0 ∷ 1 ∷ 3 ∷ []) (tag_of the_type s)
+pub no_record : (values b : List ℕ) (at p : ℕ) (s : Stage) → ((x w : ℕ) → s ≡ Finished x w → ⊥)
     → (at ≡ at + record_length s) × (b ≡ put b at (stage_bytes values p s))
 unfolding put
 no_record values b at p s h = let e = unfinished values p s h in (omega (arith, e.0), ap (put b at) e.1)

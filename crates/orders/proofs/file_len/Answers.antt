@@ -1,9 +1,5 @@
--- `orders::file_len` meets its contract. The loop's invariant: the sum, and the bytes that are left to count, come to the file's length.
-use Prim.Native.Nat.{◌+◌, ◌-◌}
-use mathlib.Core.Path.{◌≡◌, sym, ◌∙◌}
-use native.Mathlib.Omega.{arith}
-use lib.ListN.{length, get_or}
-use borrow.Author.Rules.{rules}
+-- `orders::file_len` meets its contract.
+use Rattle.std.proofs.Common.{◌≡◌, ◌+◌, ◌∙◌, sym, length, get_or, arith, rules}
 use Rattle.rules.specs.Stands.{nobody}
 use Rattle.orders.specs.Coded.Places.{part_of, machine_bytes}
 use Rattle.orders.proofs.Places.{record_most, part_length, length_next, length_none}
@@ -14,9 +10,7 @@ unfolding machine_bytes
 loop-i-init c = (search rules, search rules, omega arith)
 
 pub overflow_add-sum : goal.overflow_add-sum
-overflow_add-sum c =
-    let m = c.args.m in
-    omega (arith, c.record_len-sum.ensures, record_most (get_or m.processes c.loop-i.i nobody).stage)
+overflow_add-sum c = omega (arith, c.record_len-sum.ensures, record_most (get_or c.args.m.processes c.loop-i.i nobody).stage)
 
 pub loop-i-preserved : goal.loop-i-preserved
 loop-i-preserved c =

@@ -1,7 +1,5 @@
--- `orders::file_len` meets its contract. The loop's invariant: the sum, and the bytes that are left to count, come to the file's length.
-use Prim.Native.Nat.{suc, ◌+◌, ◌-◌, ◌*◌, ◌≤◌}
-use mathlib.Core.Path.{◌≡◌}
-use lib.ListN.{length}
+-- The sum, and the bytes that are left to count, come to the file's length.
+use Rattle.std.proofs.Common.{◌≡◌, suc, ◌+◌, ◌-◌, ◌*◌, ◌≤◌, length}
 use Rattle.text.specs.Parts.{joined}
 use Rattle.orders.specs.Coded.Places.{part_of, machine_bytes}
 use Rattle.orders.proofs.file_len.Given as goal

@@ -1,19 +1,7 @@
 -- `orders::put_number` meets its contract.
-use Prim.Native.Nat.{ℕ, ◌+◌, ◌/◌, ◌%◌}
-use mathlib.Core.Path.{◌≡◌, ap₂}
-use native.Mathlib.Omega.{arith}
-use lib.ListN.{set, length-set}
+use Rattle.std.proofs.Common.{◌≡◌, ℕ, ◌+◌, ◌/◌, ◌%◌, ap₂, set, arith}
 use Rattle.text.specs.Stores.{put}
 use Rattle.orders.proofs.put_number.Goals as goal
-
-pub bounds-buffer-at-2 : goal.bounds-buffer-at-2
-bounds-buffer-at-2 c = simp length-set (omega arith)
-
-pub bounds-buffer-at-3 : goal.bounds-buffer-at-3
-bounds-buffer-at-3 c = simp length-set (omega arith)
-
-pub bounds-buffer-at-4 : goal.bounds-buffer-at-4
-bounds-buffer-at-4 c = simp length-set (omega arith)
 
 pub returns : goal.returns
 unfolding put
