@@ -43,7 +43,7 @@ files = sorted(p for p in (top / "crates").rglob("*.antt") if "out" not in p.par
 texts = {p: p.read_text(encoding="utf-8") for p in files}
 sources = sorted(p for p in (top / "crates").rglob("*.rt") if "out" not in p.parts)
 
-own, defs, statements, tokens = {}, set(WORDS), set(), set()
+own, defs, statements, tokens, said = {}, set(WORDS), set(), set(), set()
 for p, t in texts.items():
     tokens.update(TOKEN.findall(t))
     for mods, kind, name, rest in decls(t):
@@ -53,6 +53,8 @@ for p, t in texts.items():
             continue
         if name[0].islower():
             own[name] = p
+            if "specs" in p.parts:
+                said.add(name)
             if "specs" in p.parts and ("abbrev" in mods or "unfoldable" in mods):
                 defs.add(snake(name))
         else:
@@ -68,7 +70,7 @@ def respelled(name):
         return OTHER[name]
     parts = [snake(w) for w in name.split("-")]
     flat = "_".join(parts)
-    if flat in statements or flat.endswith("_spec"):
+    if flat in statements or flat.endswith("_spec") or name in said:
         return flat
     # the longest names of definitions from the left, as parts joined by `_`
     words, i = [], 0

@@ -29,10 +29,10 @@ orders_read =
       view = refl;
       foreign = refl;
       enter = refl;
-      enter-cut = refl;
+      enter_cut = refl;
       step = refl;
       step_cut = refl;
       crash = refl;
-      crash-cut = refl;
+      crash_cut = refl;
       past_another = refl;
     }

@@ -48,7 +48,7 @@ module _ (s : List ℕ) (at : ℕ) (before : List ℕ) (v : Views) (bytes : Byte
 
   -- a process with a view, or one that names nobody
   split : (P : Type 0) (i : ℕ) → 1 ≤ i → i ≤ 32 → (Of i → P) → (seen_by v i ≡ 0 → P) → P
-  split P i a b f g = ⊎_elim (λ e. f (record_of i e)) (λ e. g (c.no_view_lem i a b e)) (either (owns v i))
+  split P i a b f g = ⊎_elim (λ e. f (record_of i e)) (λ e. g (c.no_view i a b e)) (either (owns v i))
 
   nobody : (i j : ℕ) → seen_by v i ≡ 0 → has (seen_by v i) j ≡ false
   nobody i j e = ap (λ (x : ℕ). has x j) e ∙ has_zero j
@@ -80,6 +80,6 @@ module _ (s : List ℕ) (at : ℕ) (before : List ℕ) (v : Views) (bytes : Byte
             = within_true (set_at s o.place) (first v.n) o.named.inside j (ap (λ (x : ℕ). has x j) (sym o.set) ∙ h) in
             leb-true j v.n ((and-eq-true_iff (known j) (leb j v.n)).0 (sym (has_first v.n j) ∙ q)).1)
             (λ e. absurd (true≢false (sym h ∙ nobody i j e)));
-        no_view_lem = c.no_view_lem;
+        no_view = c.no_view;
         no_member = c.no_member;
       }

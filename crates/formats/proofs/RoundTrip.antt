@@ -80,7 +80,7 @@ zero_either false x e = refl
 -- a process without a view adds nothing
 upto_skip : (v u : Views) (i : ℕ) → suc i ≤ 32 → InRange v → owns v (suc i) ≡ false → Upto v i u → Upto v (suc i) u
 upto_skip v u i l r e t =
-    let none : seen_by v (suc i) ≡ 0 = r.no_view_lem (suc i) (omega arith) l e in
+    let none : seen_by v (suc i) ≡ 0 = r.no_view (suc i) (omega arith) l e in
     let above : leb (suc i) i ≡ false = lt-leb (suc i) i (omega arith) in
     record {
       same = t.same;

@@ -58,7 +58,7 @@ carried_none s n e =
       own = has_zero;
       seen = λ at m. absurd (Memᴰ.not-nil m);
       value = λ at j m h. absurd (Memᴰ.not-nil m);
-      no_view_lem = λ i a b h. zeros 32 (i - 1);
+      no_view = λ i a b h. zeros 32 (i - 1);
       no_member = λ i j a b c d h. zeros 1024 (cell i j);
       own_fits = omega arith;
       seats = length-replicate {A = ℕ} 32 0;
@@ -79,7 +79,7 @@ module _ (s : List ℕ) (at : ℕ) (before : List ℕ) (v : Views) (p w : ℕ) (
 
   out : (j : ℕ) → 1 ≤ j → j ≤ 32 → has w j ≡ false → value_by (with_view s at v p w) p j ≡ 0
   out j a b h =
-      let none : seen_by v p ≡ 0 = c.no_view_lem p t.low room.high t.new in
+      let none : seen_by v p ≡ 0 = c.no_view p t.low room.high t.new in
       value_out s at v p w room j a h ∙ c.no_member p j t.low room.high a b (ap (λ (x : ℕ). has x j) none ∙ has_zero j)
 
   carried_more : Carried s (at ∷ before) (with_view s at v p w)
@@ -109,10 +109,10 @@ module _ (s : List ℕ) (at : ℕ) (before : List ℕ) (v : Views) (p w : ℕ) (
             ∙ ap (λ (x : ℕ). word_at s (at + 7 + 4 * count (has x) (j - 1))) t.set ∙ ap (λ (x : ℕ). value_at s x j) (sym e))
             (λ m. value_other s at v p w room (process_at s b) j (low b m) k.0 k.1 (other b m) ∙ c.value b j m h)
             (Memᴰ.cases_cons m);
-        no_view_lem = λ i l h.
+        no_view = λ i l h.
             by_one (λ i. has (plus v.own p) i ≡ false → seen_by next i ≡ 0) p i
             (λ e. absurd (true≢false (sym (has-plus-same v.own p t.low room.high) ∙ e)))
-            (λ n e. seen_other s at v p w room i l n ∙ c.no_view_lem i l h (sym (has-plus_other v.own p i (λ q. n (sym q))) ∙ e));
+            (λ n e. seen_other s at v p w room i l n ∙ c.no_view i l h (sym (has-plus_other v.own p i (λ q. n (sym q))) ∙ e));
         no_member = λ i j l h m k.
             by_one (λ i. has (seen_by next i) j ≡ false → value_by next i j ≡ 0) p i
             (λ e. out j m k (ap (λ (x : ℕ). has x j) (sym (seen_here s at v p w room)) ∙ e))
@@ -181,7 +181,7 @@ module _ (s places : List ℕ) (u v : Views) (c : Carried s places u) (d : Carri
       ⊎_elim
       (λ e. let r = in_viewed s i places e in
       ap (seen_by u) (sym r.2) ∙ c.seen r.0 r.1 ∙ sym (d.seen r.0 r.1) ∙ ap (seen_by v) r.2)
-      (λ e. c.no_view_lem i a b (c.own i ∙ e) ∙ sym (d.no_view_lem i a b (d.own i ∙ e)))
+      (λ e. c.no_view i a b (c.own i ∙ e) ∙ sym (d.no_view i a b (d.own i ∙ e)))
       (either (viewed s i places))
 
   -- no values beside a process that is not named
@@ -198,7 +198,7 @@ module _ (s places : List ℕ) (u v : Views) (c : Carried s places u) (d : Carri
       = ap (λ (x : ℕ). has x j) (sym (c.seen r.0 r.1) ∙ ap (seen_by u) r.2) ∙ h in
       ap (λ (x : ℕ). value_by u x j) (sym r.2) ∙ c.value r.0 j r.1 q ∙ sym (d.value r.0 j r.1 q)
       ∙ ap (λ (x : ℕ). value_by v x j) r.2)
-      (λ e. same_none i j a b k l (ap (λ (x : ℕ). has x j) (c.no_view_lem i a b (c.own i ∙ e)) ∙ has_zero j))
+      (λ e. same_none i j a b k l (ap (λ (x : ℕ). has x j) (c.no_view i a b (c.own i ∙ e)) ∙ has_zero j))
       (either (viewed s i places)))
       (same_none i j a b k l)
       (either (has (seen_by u i) j))

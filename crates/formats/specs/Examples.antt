@@ -165,9 +165,9 @@ pub record OrdersRead : Type 0 where
   pub view : order_at (two ++ both) 3 ≡ Order.Fault OtherMark
   pub foreign : order_at (two ++ ascii "NE") 3 ≡ Order.Fault OtherMark
   pub enter : order_at (two ++ 69 ∷ 78 ∷ 1 ∷ 4 ∷ 3 ∷ 2 ∷ 1 ∷ []) 3 ≡ Order.Enter 1 16909060
-  pub enter-cut : order_at (two ++ ascii "EN" ++ 1 ∷ 4 ∷ 3 ∷ 2 ∷ []) 3 ≡ Order.Fault BodyCut
+  pub enter_cut : order_at (two ++ ascii "EN" ++ 1 ∷ 4 ∷ 3 ∷ 2 ∷ []) 3 ≡ Order.Fault BodyCut
   pub step : order_at (two ++ 83 ∷ 84 ∷ 2 ∷ []) 3 ≡ Order.Step 2
   pub step_cut : order_at (two ++ ascii "ST") 3 ≡ Order.Fault BodyCut
   pub crash : order_at (two ++ 67 ∷ 82 ∷ 0 ∷ []) 3 ≡ Order.Crash 0
-  pub crash-cut : order_at (two ++ ascii "CR") 3 ≡ Order.Fault BodyCut
+  pub crash_cut : order_at (two ++ ascii "CR") 3 ≡ Order.Fault BodyCut
   pub past_another : order_at (two ++ ascii "ST" ++ 2 ∷ ascii "CR" ++ 255 ∷ ascii "S") 6 ≡ Order.Crash 255

@@ -19,7 +19,7 @@ pub record InRange (v : Views) : Type 0 where
   pub owner : (i : ℕ) → owns v i ≡ true → i ≤ v.n
   pub member : (i j : ℕ) → 1 ≤ i → i ≤ 32 → has (seen_by v i) j ≡ true → j ≤ v.n
   -- "zero elsewhere"
-  pub no_view_lem : (i : ℕ) → 1 ≤ i → i ≤ 32 → owns v i ≡ false → seen_by v i ≡ 0
+  pub no_view : (i : ℕ) → 1 ≤ i → i ≤ 32 → owns v i ≡ false → seen_by v i ≡ 0
   pub no_member : (i j : ℕ) → 1 ≤ i → i ≤ 32 → 1 ≤ j → j ≤ 32 → has (seen_by v i) j ≡ false → value_by v i j ≡ 0
 
 -- "A written view file reads back as the same views": for all views that a file can carry

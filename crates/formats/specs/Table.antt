@@ -81,7 +81,7 @@ pub record Carried (s places : List ℕ) (v : Views) : Type 0 where
   pub seen : (at : ℕ) → Memᴰ at places → seen_by v (process_at s at) ≡ set_at s at
   pub value : (at j : ℕ) → Memᴰ at places → has (set_at s at) j ≡ true → value_by v (process_at s at) j ≡ value_at s at j
   -- zero elsewhere
-  pub no_view_lem : (i : ℕ) → 1 ≤ i → i ≤ 32 → owns v i ≡ false → seen_by v i ≡ 0
+  pub no_view : (i : ℕ) → 1 ≤ i → i ≤ 32 → owns v i ≡ false → seen_by v i ≡ 0
   pub no_member : (i j : ℕ) → 1 ≤ i → i ≤ 32 → 1 ≤ j → j ≤ 32 → has (seen_by v i) j ≡ false → value_by v i j ≡ 0
   -- what the declared types say by themselves
   pub own_fits : v.own < 2 ^ 32

@@ -78,8 +78,8 @@ unfolding leaves deposits collect pairs rec_update_snapshot
 printed_views =
     record {
       one_given = deposited 1 7 refl;
-      two-given = deposited 2 9 refl;
-      nobody-given = deposited 3 0 refl;
+      two_given = deposited 2 9 refl;
+      nobody_given = deposited 3 0 refl;
       one = left 1 _ (lit≤ tt) (lit≤ tt) refl;
       two = left 2 _ (lit≤ tt) (lit≤ tt) refl;
     }

@@ -39,7 +39,7 @@ pub record PrintedEntered : Type 0 where
 -- "p 1 finished 1 6 1:7", "p 2 finished 2 3 1:7,2:9"
 pub record PrintedViews : Type 0 where
   pub one_given : given 2 printed 1 ≡ 7
-  pub two-given : given 2 printed 2 ≡ 9
-  pub nobody-given : given 2 printed 3 ≡ 0
+  pub two_given : given 2 printed 2 ≡ 9
+  pub nobody_given : given 2 printed 3 ≡ 0
   pub one : program_of (runs 2 printed) 1 ≡ returns (pair 1 7 ∷ [])
   pub two : program_of (runs 2 printed) 2 ≡ returns (pair 1 7 ∷ pair 2 9 ∷ [])

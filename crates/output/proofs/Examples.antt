@@ -27,7 +27,7 @@ use Rattle.text.specs.Decimal.{digits_in, decimal}
 use Rattle.text.specs.Parts.{joined}
 use Rattle.output.specs.Lines.{pair, pairs_from, sight_line, process_line, run_line, partaking, last_line}
 use Rattle.output.specs.Lines.{replay_lines, replay_text, verdict_line, verdict_text}
-use Rattle.output.specs.Examples.{p2_file, largest_file, p7_file, running_file, absent_file, ten_file, cut_file, cut_later, Texts}
+use Rattle.output.specs.Examples.{p2_file, largest_file, p7_file, running_file, absent_file, ten_file, cut_file, cut_later_file, Texts}
 use Rattle.output.proofs.ByLength.{replay_short}
 use Rattle.output.proofs.Headers.{refused_header_prints}
 
@@ -78,11 +78,11 @@ texts =
       absent = prints absent_file 2 (lit≤ tt) refl refl;
       ten = prints ten_file 10 (lit≤ tt) refl refl;
       cut = prints cut_file 1 (lit≤ tt) refl refl;
-      cut_later_lem = prints cut_later 1 (lit≤ tt) refl refl;
+      cut_later = prints cut_later_file 1 (lit≤ tt) refl refl;
       cut_header = refused_header_prints (ascii "MN") BodyCut (lit≤ tt) refl;
       refused_header = refused_header_prints (MN 33) OutOfRange (lit≤ tt) refl;
       unlike_views = refl;
-      cut-view = refl;
+      cut_view = refl;
       nothing = refl;
       no_views = refl;
     }

@@ -32,8 +32,8 @@ ten_file = MN 10 ++ joined 1 10 (λ i. EN i (20 - i)) ++ joined 1 10 ST ++ joine
 abbrev pub cut_file : List ℕ
 cut_file = MN 1 ++ ST 1 ++ 83 ∷ []
 
-abbrev pub cut_later : List ℕ
-cut_later = MN 1 ++ ST 1 ++ 83 ∷ 84 ∷ []
+abbrev pub cut_later_file : List ℕ
+cut_later_file = MN 1 ++ ST 1 ++ 83 ∷ 84 ∷ []
 
 pub record Texts : Type 0 where
   pub printed_run : replay_text printed_file
@@ -50,10 +50,10 @@ pub record Texts : Type 0 where
       ∷ "p 6 running 10 1 -" ∷ "p 7 running 10 1 -" ∷ "p 8 running 10 1 -" ∷ "p 9 running 10 1 -"
       ∷ "p 10 finished 10 11 1:19,2:18,3:17,4:16,5:15,6:14,7:13,8:12,9:11,10:10" ∷ "participants 10" ∷ [])
   pub cut : replay_text cut_file ≡ lines ("run 11 6 1 0 1" ∷ "p 1 absent 0 0 -" ∷ "participants 0" ∷ [])
-  pub cut_later_lem : replay_text cut_later ≡ lines ("run 24 8 1 0 1" ∷ "p 1 absent 0 0 -" ∷ "participants 0" ∷ [])
+  pub cut_later : replay_text cut_later_file ≡ lines ("run 24 8 1 0 1" ∷ "p 1 absent 0 0 -" ∷ "participants 0" ∷ [])
   pub cut_header : replay_text (ascii "MN") ≡ lines ("run 24 2 0 0 0" ∷ "p 1 absent 0 0 -" ∷ "participants 0" ∷ [])
   pub refused_header : replay_text (MN 33) ≡ lines ("run 8 0 0 0 0" ∷ "p 1 absent 0 0 -" ∷ "participants 0" ∷ [])
   pub unlike_views : verdict_text p10 ≡ lines ("verdict 22 37 1 2" ∷ [])
-  pub cut-view : verdict_text (take 36 p10) ≡ lines ("verdict 24 36 0 0" ∷ [])
+  pub cut_view : verdict_text (take 36 p10) ≡ lines ("verdict 24 36 0 0" ∷ [])
   pub nothing : verdict_text [] ≡ lines ("verdict 9 0 0 0" ∷ [])
   pub no_views : verdict_text (MN 3) ≡ lines ("verdict 0 3 0 0" ∷ [])

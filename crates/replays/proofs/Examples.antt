@@ -91,9 +91,9 @@ small_examples =
       view = record { number_is = refl; place_is = refl; taken_is = refl; accesses_is = refl; refused_is = refl };
       foreign = record { number_is = refl; place_is = refl; taken_is = refl; accesses_is = refl; refused_is = refl };
       half_foreign = record { number_is = refl; place_is = refl; taken_is = refl; accesses_is = refl; refused_is = refl };
-      enter-cut = record { number_is = refl; place_is = refl; taken_is = refl; accesses_is = refl; refused_is = refl };
+      enter_cut = record { number_is = refl; place_is = refl; taken_is = refl; accesses_is = refl; refused_is = refl };
       step_cut = record { number_is = refl; place_is = refl; taken_is = refl; accesses_is = refl; refused_is = refl };
-      crash-cut = record { number_is = refl; place_is = refl; taken_is = refl; accesses_is = refl; refused_is = refl };
+      crash_cut = record { number_is = refl; place_is = refl; taken_is = refl; accesses_is = refl; refused_is = refl };
     }
 
 -- process 3 of 2 is refused
@@ -110,8 +110,8 @@ unfolding replay_of header_of orders_from order_at mark_at mark_of
 refused-examples =
     record {
       skipped = record { number_is = refl; place_is = refl; taken_is = refl; accesses_is = no_access; refused_is = one_refused };
-      then-cut = record { number_is = refl; place_is = refl; taken_is = refl; accesses_is = no_access; refused_is = one_refused };
-      then-cut_later = record { number_is = refl; place_is = refl; taken_is = refl; accesses_is = no_access; refused_is = one_refused };
+      then_cut = record { number_is = refl; place_is = refl; taken_is = refl; accesses_is = no_access; refused_is = one_refused };
+      then_cut_later = record { number_is = refl; place_is = refl; taken_is = refl; accesses_is = no_access; refused_is = one_refused };
       then_spent = record { number_is = refl; place_is = refl; taken_is = refl; accesses_is = no_access; refused_is = one_refused };
     }
 

@@ -46,7 +46,7 @@ as_looked m e i low high =
     let s = stage_of m i in
     let l : look_of m i ≡ looked m s = look_valid m i (record { shape = e; low = low; high = high }) in
     record {
-      has-view = (
+      has_view = (
         λ h. ap (λ (r : Sight). r.standing) l ∙ stands s (sym (owned m i low top) ∙ h),
         λ h. owned m i low top ∙ sym (finishes s) ∙ ap is_finished (sym (ap (λ (r : Sight). r.standing) l) ∙ h),
       );

@@ -38,11 +38,11 @@ view-found (Running x k f) e = absurd (true≢false (sym e))
 view-found (Finished x w) e = refl
 view-found (Crashed x k f) e = absurd (true≢false (sym e))
 
-no_view_lem : (s : Stage) → finished s ≡ false → view_of s ≡ 0
-no_view_lem Absent e = refl
-no_view_lem (Running x k f) e = refl
-no_view_lem (Finished x w) e = absurd (true≢false e)
-no_view_lem (Crashed x k f) e = refl
+no_view : (s : Stage) → finished s ≡ false → view_of s ≡ 0
+no_view Absent e = refl
+no_view (Running x k f) e = refl
+no_view (Finished x w) e = absurd (true≢false e)
+no_view (Crashed x k f) e = refl
 
 view-below : (s : Stage) → found_of s < 2 ^ 32 → view_of s < 2 ^ 32
 view-below Absent e = e
@@ -129,7 +129,7 @@ module _ (m : Machine) (S : Shaped m) where
         value_fits = λ i j low high below above. value_fits i low high j W below above;
         owner = owner_below;
         member = λ i j low high h. named_below i low high j (named i low high j h);
-        no_view_lem = λ i low high h. seen m i low high ∙ no_view_lem (stage_of m i) (sym (owned m i low high) ∙ h);
+        no_view = λ i low high h. seen m i low high ∙ no_view (stage_of m i) (sym (owned m i low high) ∙ h);
         no_member = λ i j low high below above h. value_unnamed i low high j below above (ap (λ (w : ℕ). has w j) (sym (seen m i low high)) ∙ h);
       }
 

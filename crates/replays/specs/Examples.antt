@@ -81,16 +81,16 @@ pub record Small : Type 0 where
   pub view : RunLine (MN 2 ++ ascii "VW") 5 10 3 0 0 0
   pub foreign : RunLine (MN 2 ++ 0 ∷ 0 ∷ []) 5 10 3 0 0 0
   pub half_foreign : RunLine (MN 2 ++ ascii "SN" ++ 1 ∷ []) 5 10 3 0 0 0
-  pub enter-cut : RunLine (MN 2 ++ ascii "EN" ++ 1 ∷ 7 ∷ 0 ∷ 0 ∷ []) 5 24 9 0 0 0
+  pub enter_cut : RunLine (MN 2 ++ ascii "EN" ++ 1 ∷ 7 ∷ 0 ∷ 0 ∷ []) 5 24 9 0 0 0
   pub step_cut : RunLine (MN 2 ++ ascii "ST") 5 24 5 0 0 0
-  pub crash-cut : RunLine (MN 2 ++ ascii "CR") 5 24 5 0 0 0
+  pub crash_cut : RunLine (MN 2 ++ ascii "CR") 5 24 5 0 0 0
 
 -- "An order the machine refuses is counted among the orders taken and among the orders refused, and skipped": a process above n; then a fault
 -- leaves the counts as they are.
 pub record OrdersRefused : Type 0 where
   pub skipped : RunLine (MN 2 ++ ST 3) 1 0 6 1 0 1
-  pub then-cut : RunLine (MN 2 ++ ST 3 ++ ascii "S") 2 11 6 1 0 1
-  pub then-cut_later : RunLine (MN 2 ++ ST 3 ++ ascii "ST") 2 24 8 1 0 1
+  pub then_cut : RunLine (MN 2 ++ ST 3 ++ ascii "S") 2 11 6 1 0 1
+  pub then_cut_later : RunLine (MN 2 ++ ST 3 ++ ascii "ST") 2 24 8 1 0 1
   pub then_spent : RunLine (MN 2 ++ ST 3 ++ ST 3) 1 13 6 1 0 1
 
 -- After a refused header: a machine of one process, whatever the header says, and the orders behind it are not made.

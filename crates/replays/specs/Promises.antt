@@ -139,7 +139,7 @@ EveryClauseWritten = (e : BothSides) → Memᴰ e every_clause → WriterTested 
 
 -- What the writer writes of a process is what a look at it shows.
 pub record AsLooked (m : Machine) (i : ℕ) : Type 0 where
-  pub has-view : (owns (views_of m) i ≡ true) ↔ ((look_of m i).standing ≡ Standing.Finished)
+  pub has_view : (owns (views_of m) i ≡ true) ↔ ((look_of m i).standing ≡ Standing.Finished)
   pub set : seen_by (views_of m) i ≡ (look_of m i).view
   pub values : (j : ℕ) → 1 ≤ j → j ≤ 32 → value_by (views_of m) i j ≡ get_or (look_of m i).values (j - 1) 0
 

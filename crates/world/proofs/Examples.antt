@@ -10,8 +10,8 @@ unfolding leaves counts ever deposits admits accesses_made
 computed =
     record {
       one_holds = refl;
-      two-holds = refl;
-      none-holds = refl;
+      two_holds = refl;
+      none_holds = refl;
       two_returns = refl;
       one_halts = refl;
       one_stepped = refl;
@@ -19,15 +19,15 @@ computed =
       stepped = refl;
       accepted = refl;
       made = refl;
-      two-goes = refl;
+      two_goes = refl;
       two_rests = refl;
       three_rests = refl;
       refused = refl;
-      two-deposits = refl;
+      two_deposits = refl;
       one_deposits = refl;
-      nobody-deposits = refl;
+      nobody_deposits = refl;
       two_admitted = refl;
       three_admitted = refl;
-      has_entered_lem = refl;
+      has_entered = refl;
       has_not_entered = refl;
     }

@@ -26,8 +26,8 @@ after = leaves (world_taker two) (start two)
 
 pub record Computed : Type 0 where
   pub one_holds : (after calls).registers 1 ≡ holds 7
-  pub two-holds : (after calls).registers 2 ≡ holds 9
-  pub none-holds : (after calls).registers 3 ≡ empty
+  pub two_holds : (after calls).registers 2 ≡ holds 9
+  pub none_holds : (after calls).registers 3 ≡ empty
   -- 2 found 1's value; 1 has crashed
   pub two_returns : (after calls).remains 2 ≡ returns (holds 7)
   pub one_halts : (after calls).remains 1 ≡ halted
@@ -39,17 +39,17 @@ pub record Computed : Type 0 where
   -- which they are: 1 writes, 2 writes and finds what 1 wrote
   pub made : accesses_made two (start two) calls ≡ wrote_to 1 7 ∷ wrote_to 2 9 ∷ read_from 1 (holds 7) ∷ []
   -- 2 has had an access to make after some of the calls, though not after all; 3 never has
-  pub two-goes : ever (world_taker two) (λ w. accesses (w.remains 2)) (start two) calls ≡ true
+  pub two_goes : ever (world_taker two) (λ w. accesses (w.remains 2)) (start two) calls ≡ true
   pub two_rests : accesses ((after calls).remains 2) ≡ false
   pub three_rests : ever (world_taker two) (λ w. accesses (w.remains 3)) (start two) calls ≡ false
   -- a step before the enter, a second enter, a process above n, a step and a crash after the return, a step and a crash after a crash
   pub refused : counts (world_taker two) is_refused (start two) calls ≡ 7
   -- what was deposited: by the first enter, and by nobody above n
-  pub two-deposits : deposits (world_taker two) (start two) calls 2 ≡ 9
+  pub two_deposits : deposits (world_taker two) (start two) calls 2 ≡ 9
   pub one_deposits : deposits (world_taker two) (start two) calls 1 ≡ 7
-  pub nobody-deposits : deposits (world_taker two) (start two) calls 3 ≡ 0
+  pub nobody_deposits : deposits (world_taker two) (start two) calls 3 ≡ 0
   -- an accepted enter of 2 is among the calls, and none of 3
   pub two_admitted : admits (world_taker two) (start two) calls 2 ≡ true
   pub three_admitted : admits (world_taker two) (start two) calls 3 ≡ false
-  pub has_entered_lem : (after calls).entered 2 ≡ true
+  pub has_entered : (after calls).entered 2 ≡ true
   pub has_not_entered : (after calls).entered 3 ≡ false

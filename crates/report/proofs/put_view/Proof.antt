@@ -21,15 +21,15 @@ put-pairs-requires c κs =
     let a = c.before.before.before.before in room_as
     (ap (λ (t : Standing). view t a.args.w a.args.values) c.before.enum_told.given.1) a.requires
 
-no_view_lem : (t : Standing) (w : ℕ) (values : List ℕ) → OneOf (0 ∷ 1 ∷ 3 ∷ []) (tag_of the_type t) → view t w values ≡ 45 ∷ []
-no_view_lem Absent w values h = refl
-no_view_lem Running w values h = refl
-no_view_lem Finished w values h = absurd (miss (0 ∷ 1 ∷ 3 ∷ []) 2 tt h)
-no_view_lem Crashed w values h = refl
+no_view : (t : Standing) (w : ℕ) (values : List ℕ) → OneOf (0 ∷ 1 ∷ 3 ∷ []) (tag_of the_type t) → view t w values ≡ 45 ∷ []
+no_view Absent w values h = refl
+no_view Running w values h = refl
+no_view Finished w values h = absurd (miss (0 ∷ 1 ∷ 3 ∷ []) 2 tt h)
+no_view Crashed w values h = refl
 
 put-byte-requires : tie.Need-put-byte-requires
 put-byte-requires c κs =
-    let a = c.before.before.before in room_as (no_view_lem a.args.s a.args.w a.args.values c.before.match.keys2) a.requires
+    let a = c.before.before.before in room_as (no_view a.args.s a.args.w a.args.values c.before.match.keys2) a.requires
 
 same_length : tie.Need-same-length
 same_length c = search rules
@@ -46,7 +46,7 @@ same-length-2 c = search rules
 returns-2 : tie.Need-returns-2
 returns-2 c =
     let a = c.before.before.before.before.before.before.args in
-    stored_as (sym (no_view_lem a.s a.w a.values c.before.before.before.before.match.keys2)) c.before.before.put_byte.ensures
+    stored_as (sym (no_view a.s a.w a.values c.before.before.before.before.match.keys2)) c.before.before.put_byte.ensures
 
 pub put_view_spec : {M : Type 1} → statement M
 put_view_spec = tie.close (tie.spec enum_told put-pairs-requires put-byte-requires same_length returns same-length-2 returns-2)
