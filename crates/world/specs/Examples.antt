@@ -1,10 +1,10 @@
 -- A world of two processes, computed: each writes its value to its own register, reads the other's, and returns what stood there.
-use Rattle.std.specs.Prelude.{◌≡◌, Bool, true, false, List, [], ◌∷◌, ℕ, ◌-◌, eqb}
+use Rattle.std.specs.Prelude.{◌≡◌, true, false, List, [], ◌∷◌, ℕ, ◌-◌, eqb}
 use Rattle.world.specs.Programs.{Register, empty, holds, Program, writes, reads, returns, halted, accesses, ◌>>◌, ◌>>=◌}
 use Rattle.world.specs.Calls.{Call, enters, steps, crashes, leaves, counts, accepted_step_of, ever, deposits}
 use Rattle.world.specs.Counts.{accepted_step, is_accepted, is_refused, admits}
 use Rattle.world.specs.World.{Algorithm, World, start, world_taker}
-use Rattle.world.specs.Accesses.{Access, wrote_to, read_from, accesses_made}
+use Rattle.world.specs.Accesses.{wrote_to, read_from, accesses_made}
 
 abbrev pub exchange : ℕ → ℕ → Program ℕ Register
 exchange p v = do

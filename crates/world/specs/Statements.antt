@@ -1,5 +1,5 @@
 -- What is proved of lists of calls, whoever takes them.
-use Rattle.std.specs.Prelude.{◌≡◌, ◌↔◌, Bool, true, List, ◌++◌, ℕ, ◌+◌, length}
+use Rattle.std.specs.Prelude.{◌≡◌, ◌↔◌, Bool, true, List, ◌++◌, ◌+◌, length}
 use Rattle.world.specs.Calls.{Call, Taker, leaves, counts, ever}
 use Rattle.world.specs.Counts.{is_accepted, is_refused, AfterSome}
 

@@ -14,7 +14,7 @@ use Rattle.rules.specs.declared.Stage.TheVariants.{Absent, Running, Finished, Cr
 use Rattle.rules.specs.declared.Machine.{Machine}
 use Rattle.rules.specs.declared.Answer.TheVariants.{NotShaped, NoProcess, NoLevelBelow}
 use Rattle.rules.specs.declared.Called.{Called}
-use Rattle.rules.specs.Stands.{stage_of, row_of, entered}
+use Rattle.rules.specs.Stands.{stage_of, entered}
 use Rattle.rules.specs.State.{finished, crashed, accesses_of}
 use Rattle.rules.specs.Shape.{Held, shaped}
 use Rattle.rules.specs.Calls.{number_of, accepted, refused, crash_of, step_at, step_of, steps_of, finish_from, or_as_at_entry, finish_at, finish_of}

@@ -10,7 +10,7 @@ use borrow.Author.Tests.{leb-true, le-leb, ne_eqb}
 use Rattle.sets.specs.Members.{known, has, size}
 use Rattle.sets.specs.Sets.{plus, set_of}
 use Rattle.sets.proofs.Laws.{same_truth, has-known, true_known, has-plus_cases, has-set_of, set_of-below}
-use Rattle.sets.proofs.Laws.{members_equal, plus-below}
+use Rattle.sets.proofs.Laws.{members_equal}
 use Rattle.rules.specs.declared.Stage.{Stage}
 use Rattle.rules.specs.declared.Stage.TheVariants.{Running, Finished}
 use Rattle.rules.specs.declared.Process.{Process}

@@ -3,7 +3,6 @@ use mathlib.Core.Path.{sym, ap, ◌∙◌}
 use Prim.Native.Nat.{ℕ, ◌-◌}
 use native.Mathlib.Omega.{arith}
 use lib.Pow.{pow_pos, pow_mono}
-use borrow.Author.Rules.{rules}
 use Rattle.sets.proofs.Laws.{first_some, first_all}
 use Rattle.sets.proofs.Bits.{one_shifted}
 use Rattle.sets.proofs.first.Goals as goal

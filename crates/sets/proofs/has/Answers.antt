@@ -4,7 +4,6 @@ use mathlib.Core.Bool.{Bool, ◌&&◌}
 use Prim.Native.Nat.{◌-◌, ◌/◌, ◌%◌, ◌^◌}
 use native.Mathlib.Omega.{arith}
 use lib.Dec.{eqb}
-use borrow.Author.Rules.{rules}
 use Rattle.sets.specs.Members.{has}
 use Rattle.sets.proofs.Laws.{unknown_has, unknown_below, unknown_above, true_known}
 use Rattle.sets.proofs.has.Goals as goal

@@ -3,7 +3,6 @@ use mathlib.Core.Path.{sym, ap, ◌∙◌}
 use Prim.Native.Nat.{◌-◌}
 use native.Mathlib.Omega.{arith}
 use lib.Bits.{bit_or}
-use borrow.Author.Rules.{rules}
 use Rattle.sets.proofs.Laws.{plus_unknown, unknown_below, unknown_above, true_known}
 use Rattle.sets.proofs.Bits.{plus_or, one_shifted}
 use Rattle.sets.proofs.plus.Goals as goal

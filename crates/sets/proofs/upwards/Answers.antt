@@ -3,7 +3,6 @@ use mathlib.Core.Path.{◌∙◌}
 use native.Mathlib.Nat.{mod-eq_of_lt, lt_of_le_of_lt, div-mul-le_self}
 use Prim.Native.Nat.{◌-◌, ◌^◌}
 use Rattle.sets.proofs.Laws.{upwards_all, upwards-none, cleared_upwards}
-use borrow.Author.Rules.{rules}
 use Rattle.sets.proofs.upwards.Goals as goal
 
 pub returns-then-from-lt1 : goal.returns-then-from-lt1
