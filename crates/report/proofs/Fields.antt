@@ -7,23 +7,16 @@ use native.Mathlib.Numerals.{add-one}
 use lib.ListN.{length, drop, get_or, drop_of_length-le}
 use lib.Seq.{drop-cons}
 use Rattle.output.specs.Lines.{field, fields}
-use Rattle.text.specs.Stores.{Room, Stored}
-use Rattle.text.proofs.Stores.{Left, left_start, left_room, left_next, left_none, room_first, room_as}
+use Rattle.text.specs.Stores.{Stored}
+use Rattle.text.proofs.Stores.{Left, left_next, left_none}
 
 pub record Fields (b₀ : List ℕ) (at : ℕ) (ns b : List ℕ) (place i : ℕ) : Type 0 where
   pub most : i ≤ length ns
   pub rest : Left b₀ at (fields ns) b place (fields (drop i ns))
 
-pub fields-start : (b : List ℕ) (at : ℕ) (ns : List ℕ) → Fields b at ns b at 0
-fields-start b at ns = record { most = omega arith; rest = left_start b at (fields ns) }
-
 -- the next one
 next_field : (ns : List ℕ) (i : ℕ) → i < length ns → fields (drop i ns) ≡ field (get_or ns i 0) ++ fields (drop (i + 1) ns)
 next_field ns i h = ap fields (let d : drop i ns ≡ get_or ns i 0 ∷ drop (i + 1) ns = rw (add-one, drop-cons ns i 0) in d)
-
-pub field_room : {b₀ ns b : List ℕ} {at place i : ℕ} → Fields b₀ at ns b place i → i < length ns → Room b₀ at (fields ns) → Room b place (field (get_or ns i 0))
-field_room {b₀} {ns} {b} {at} {place} {i} f h r =
-    room_first (field (get_or ns i 0)) (fields (drop (i + 1) ns)) (room_as (next_field ns i h) (left_room r f.rest))
 
 pub fields_next : {b₀ ns b b' : List ℕ} {at place i r : ℕ} → Fields b₀ at ns b place i → i < length ns → Stored b place (field (get_or ns i 0)) b' r
     → Fields b₀ at ns b' r (i + 1)

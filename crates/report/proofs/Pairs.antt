@@ -8,14 +8,11 @@ use lib.ListN.{get_or}
 use Rattle.sets.specs.Members.{has}
 use Rattle.output.specs.Lines.{pair, pairs_from}
 use Rattle.text.specs.Stores.{Room, Stored}
-use Rattle.text.proofs.Stores.{Left, left_start, left_room, left_next, left_as, left_none, room_first, room_as}
+use Rattle.text.proofs.Stores.{Left, left_room, left_next, left_as, left_none, room_first, room_as}
 
 pub record Pairs (b₀ : List ℕ) (at w : ℕ) (values b : List ℕ) (place : ℕ) (later : Bool) (i : ℕ) : Type 0 where
   pub most : i ≤ 32
   pub rest : Left b₀ at (pairs_from false w values 1 32) b place (pairs_from later w values (suc i) (32 - i))
-
-pub pairs_start : (b : List ℕ) (at w : ℕ) (values : List ℕ) → Pairs b at w values b at false 0
-pairs_start b at w values = record { most = omega arith; rest = left_start b at (pairs_from false w values 1 32) }
 
 -- the process after the first i, by whether the view names it
 one_more : (later : Bool) (w : ℕ) (values : List ℕ) (i : ℕ) → i < 32 → (t : Bool) → has w (i + 1) ≡ t

@@ -57,12 +57,6 @@ module _ {m : Machine} {b₀ b : List ℕ} {at place i : ℕ} (l : Lines m b₀ 
         stands = stored_as (one_more (process_line m) i) (then l.stands (stored_as one t));
       }
 
-pub lines_all : {m : Machine} {b₀ b : List ℕ} {at place i : ℕ} → Lines m b₀ at b place i → m.n ≤ i
-    → (place ≤ at + 485 * m.n) × Stored b₀ at (joined 1 m.n (process_line m)) b place
-lines_all {m} {b₀} {b} {at} {place} {i} l h =
-    let e : i ≡ m.n = omega (arith, l.most) in
-    (omega (arith, l.near), stored_as (ap (λ (k : ℕ). joined 1 k (process_line m)) e) l.stands)
-
 -- The participants among the first i processes.
 pub record Partakers (m : Machine) (sum i : ℕ) : Type 0 where
   pub most : i ≤ m.n
@@ -74,7 +68,8 @@ unfolding count
 partakers_none m = record { most = omega arith; few = omega arith; counted = refl }
 
 tick_one : (t : Bool) → tick t ≤ 1
-tick_one t = elim t [ true ↦ omega arith | false ↦ omega arith ]
+tick_one true = omega arith
+tick_one false = omega arith
 
 pub partakers_more : {m : Machine} {sum i : ℕ} → Partakers m sum i → i < m.n → {k : ℕ} → k ≡ tick (entered (get_or m.processes i nobody).stage)
     → Partakers m (sum + k) (i + 1)
