@@ -2,20 +2,22 @@
 #![tactic(auto)]
 
 use findings::FileVerdict;
-use libc::STDOUT_FILENO;
+
+// The system's number of standard output.
+const STDOUT: i32 = 1;
 
 fn field(n: u64) {
-    io::write_all(STDOUT_FILENO, b" ");
-    io::print_decimal(STDOUT_FILENO, n);
+    io::write_all(STDOUT, b" ");
+    io::print_decimal(STDOUT, n);
 }
 
 fn show(v: FileVerdict) {
-    io::write_all(STDOUT_FILENO, b"verdict");
+    io::write_all(STDOUT, b"verdict");
     field(v.number as u64);
     field(v.place as u64);
     field(v.i as u64);
     field(v.j as u64);
-    io::write_all(STDOUT_FILENO, b"\n");
+    io::write_all(STDOUT, b"\n");
 }
 
 fn main() {

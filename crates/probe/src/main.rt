@@ -5,28 +5,30 @@
 
 ghost use Rattle.std.specs.Prelude.{◌<◌, ◌≡◌, length};
 
-use libc::STDOUT_FILENO;
 use replays::{Replayed, WriteAnswer, Written};
 use streams::Input;
 
+// The system's number of standard output.
+const STDOUT: i32 = 1;
+
 fn field(n: u64) {
-    io::write_all(STDOUT_FILENO, b" ");
-    io::print_decimal(STDOUT_FILENO, n);
+    io::write_all(STDOUT, b" ");
+    io::print_decimal(STDOUT, n);
 }
 
 fn show_run(r: Replayed) {
-    io::write_all(STDOUT_FILENO, b"run");
+    io::write_all(STDOUT, b"run");
     let answer = r.answer;
     field(files::number(answer) as u64);
     field(r.place as u64);
     field(r.taken as u64);
     field(r.accesses as u64);
     field(r.refused as u64);
-    io::write_all(STDOUT_FILENO, b"\n");
+    io::write_all(STDOUT, b"\n");
 }
 
 fn show_written(w: Written) {
-    io::write_all(STDOUT_FILENO, b"views");
+    io::write_all(STDOUT, b"views");
     let answer = w.answer;
     match answer {
         WriteAnswer::Done => field(0),
@@ -34,7 +36,7 @@ fn show_written(w: Written) {
         WriteAnswer::TooShort => field(17),
     }
     field(w.bytes as u64);
-    io::write_all(STDOUT_FILENO, b"\n");
+    io::write_all(STDOUT, b"\n");
 }
 
 // The number of two bytes.
@@ -56,12 +58,12 @@ fn probe(orders: &[u8], budget: u32, buffer: &mut [u8]) {
     show_run(r);
     let m = r.machine;
     show_written(orders::write_views(m, buffer));
-    io::write_all(STDOUT_FILENO, buffer);
+    io::write_all(STDOUT, buffer);
 }
 
-fn main() {
+fn main(rt: HostRuntime) {
     let mut input = io::large_buffer();
-    let Input::Bytes(got) = streams::read_input(&mut input) else {
+    let Input::Bytes(got) = streams::read_input(&rt, &mut input) else {
         return;
     };
     let budget = 65536 * two(input[2], input[3]) + two(input[0], input[1]);

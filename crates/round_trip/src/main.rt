@@ -3,27 +3,29 @@
 #![tactic(auto)]
 
 use findings::FileVerdict;
-use libc::STDOUT_FILENO;
 use replays::{Replayed, WriteAnswer, Written};
 
+// The system's number of standard output.
+const STDOUT: i32 = 1;
+
 fn field(n: u64) {
-    io::write_all(STDOUT_FILENO, b" ");
-    io::print_decimal(STDOUT_FILENO, n);
+    io::write_all(STDOUT, b" ");
+    io::print_decimal(STDOUT, n);
 }
 
 fn show_run(r: Replayed) {
-    io::write_all(STDOUT_FILENO, b"run");
+    io::write_all(STDOUT, b"run");
     let answer = r.answer;
     field(files::number(answer) as u64);
     field(r.place as u64);
     field(r.taken as u64);
     field(r.accesses as u64);
     field(r.refused as u64);
-    io::write_all(STDOUT_FILENO, b"\n");
+    io::write_all(STDOUT, b"\n");
 }
 
 fn show_written(w: Written) {
-    io::write_all(STDOUT_FILENO, b"views");
+    io::write_all(STDOUT, b"views");
     let answer = w.answer;
     match answer {
         WriteAnswer::Done => field(0),
@@ -31,16 +33,16 @@ fn show_written(w: Written) {
         WriteAnswer::TooShort => field(17),
     }
     field(w.bytes as u64);
-    io::write_all(STDOUT_FILENO, b"\n");
+    io::write_all(STDOUT, b"\n");
 }
 
 fn show_verdict(v: FileVerdict) {
-    io::write_all(STDOUT_FILENO, b"verdict");
+    io::write_all(STDOUT, b"verdict");
     field(v.number as u64);
     field(v.place as u64);
     field(v.i as u64);
     field(v.j as u64);
-    io::write_all(STDOUT_FILENO, b"\n");
+    io::write_all(STDOUT, b"\n");
 }
 
 fn main() {

@@ -5,9 +5,13 @@
 
 ghost use Rattle.std.specs.Prelude.{◌<◌};
 
-use libc::{STDIN_FILENO, STDOUT_FILENO};
 use replays::WriteAnswer;
 use rules::{Answer, Machine, Process, Stage};
+
+// The system's numbers of standard input and standard output.
+const STDIN: i32 = 0;
+
+const STDOUT: i32 = 1;
 
 // One decimal digit; any other byte is 0.
 fn digit(b: u8) -> u32
@@ -31,15 +35,15 @@ fn two_digits(tens: u8, ones: u8) -> u32
 // The number of document 01's table, after a space.
 fn print_number(a: Answer) {
     match a {
-        Answer::Done => io::write_all(STDOUT_FILENO, b" 0"),
-        Answer::NotShaped => io::write_all(STDOUT_FILENO, b" 1"),
-        Answer::NoProcess => io::write_all(STDOUT_FILENO, b" 2"),
-        Answer::EnteredBefore => io::write_all(STDOUT_FILENO, b" 3"),
-        Answer::NeverEntered => io::write_all(STDOUT_FILENO, b" 4"),
-        Answer::HasCrashed => io::write_all(STDOUT_FILENO, b" 5"),
-        Answer::HasFinished => io::write_all(STDOUT_FILENO, b" 6"),
-        Answer::NoLevelBelow => io::write_all(STDOUT_FILENO, b" 7"),
-        Answer::OutOfRange => io::write_all(STDOUT_FILENO, b" 8"),
+        Answer::Done => io::write_all(STDOUT, b" 0"),
+        Answer::NotShaped => io::write_all(STDOUT, b" 1"),
+        Answer::NoProcess => io::write_all(STDOUT, b" 2"),
+        Answer::EnteredBefore => io::write_all(STDOUT, b" 3"),
+        Answer::NeverEntered => io::write_all(STDOUT, b" 4"),
+        Answer::HasCrashed => io::write_all(STDOUT, b" 5"),
+        Answer::HasFinished => io::write_all(STDOUT, b" 6"),
+        Answer::NoLevelBelow => io::write_all(STDOUT, b" 7"),
+        Answer::OutOfRange => io::write_all(STDOUT, b" 8"),
     };
 }
 
@@ -79,9 +83,9 @@ fn try_write(m: Machine) {
     let w = orders::write_views(m, &mut buffer);
     let answer = w.answer;
     match answer {
-        WriteAnswer::Done => io::write_all(STDOUT_FILENO, b" 0"),
-        WriteAnswer::NotShaped => io::write_all(STDOUT_FILENO, b" 1"),
-        WriteAnswer::TooShort => io::write_all(STDOUT_FILENO, b" 17"),
+        WriteAnswer::Done => io::write_all(STDOUT, b" 0"),
+        WriteAnswer::NotShaped => io::write_all(STDOUT, b" 1"),
+        WriteAnswer::TooShort => io::write_all(STDOUT, b" 17"),
     };
 }
 
@@ -93,7 +97,7 @@ fn try_all(m: Machine, p: u32) {
     try_finish(m, p);
     try_look(m, p);
     try_write(m);
-    io::write_all(STDOUT_FILENO, b"\n");
+    io::write_all(STDOUT, b"\n");
 }
 
 // No process has entered; n may be any number.
@@ -161,7 +165,7 @@ fn obey(m: Machine, line: &[u8]) -> Machine {
     if line.len() < 14 {
         return m;
     }
-    io::write_all(STDOUT_FILENO, line);
+    io::write_all(STDOUT, line);
     let letter = line[0];
     let a = two_digits(line[2], line[3]);
     if letter == b't' {
@@ -182,7 +186,7 @@ fn obey(m: Machine, line: &[u8]) -> Machine {
 
 fn main() {
     let mut script = io::large_buffer();
-    let got = io::read_full(STDIN_FILENO, &mut script);
+    let got = io::read_full(STDIN, &mut script);
     let mut m = fresh(1);
     let mut at = 0;
     while at + 14 <= got {

@@ -4,8 +4,10 @@
 
 ghost use Rattle.std.specs.Prelude.{◌<◌};
 
-use libc::STDOUT_FILENO;
 use rules::{Answer, Called, Machine, Process, Sight, Stage, Standing};
+
+// The system's number of standard output.
+const STDOUT: i32 = 1;
 
 // One decimal digit; any other byte is 0.
 fn digit(b: u8) -> u32
@@ -92,20 +94,20 @@ fn call(m: Machine, letter: u8, p: u32, v: u32) -> Called {
 
 fn print_standing(s: Standing) -> bool {
     match s {
-        Standing::Absent => io::write_all(STDOUT_FILENO, b" absent "),
-        Standing::Running => io::write_all(STDOUT_FILENO, b" running "),
-        Standing::Finished => io::write_all(STDOUT_FILENO, b" finished "),
-        Standing::Crashed => io::write_all(STDOUT_FILENO, b" crashed "),
+        Standing::Absent => io::write_all(STDOUT, b" absent "),
+        Standing::Running => io::write_all(STDOUT, b" running "),
+        Standing::Finished => io::write_all(STDOUT, b" finished "),
+        Standing::Crashed => io::write_all(STDOUT, b" crashed "),
     }
 }
 
 // A pair of a view, after a space; nothing where the view lacks the process.
 fn print_pair(view: u32, i: u32, value: u32) {
     if sets::has(view, i) {
-        io::write_all(STDOUT_FILENO, b" ");
-        io::print_decimal(STDOUT_FILENO, i as u64);
-        io::write_all(STDOUT_FILENO, b":");
-        io::print_decimal(STDOUT_FILENO, value as u64);
+        io::write_all(STDOUT, b" ");
+        io::print_decimal(STDOUT, i as u64);
+        io::write_all(STDOUT, b":");
+        io::print_decimal(STDOUT, value as u64);
     }
 }
 
@@ -120,29 +122,29 @@ fn print_view(s: Sight) {
 fn print_look(s: Sight) {
     let answer = s.answer;
     let standing = s.standing;
-    io::print_decimal(STDOUT_FILENO, number(answer));
+    io::print_decimal(STDOUT, number(answer));
     print_standing(standing);
-    io::print_decimal(STDOUT_FILENO, s.level as u64);
-    io::write_all(STDOUT_FILENO, b" ");
-    io::print_decimal(STDOUT_FILENO, s.accesses as u64);
+    io::print_decimal(STDOUT, s.level as u64);
+    io::write_all(STDOUT, b" ");
+    io::print_decimal(STDOUT, s.accesses as u64);
     print_view(s);
-    io::write_all(STDOUT_FILENO, b"\n");
+    io::write_all(STDOUT, b"\n");
 }
 
 // One line of the script, and the machine after it.
 fn obey(m: Machine, line: [u8; 6]) -> Machine {
     let letter = line[0];
     let p = 10 * digit(line[2]) + digit(line[3]);
-    io::write_all(STDOUT_FILENO, &line);
-    io::write_all(STDOUT_FILENO, b"  ");
+    io::write_all(STDOUT, &line);
+    io::write_all(STDOUT, b"  ");
     if letter == b'l' {
         print_look(sight::look(m, p));
         return m;
     }
     let c = call(m, letter, p, digit(line[5]));
     let answer = c.answer;
-    io::print_decimal(STDOUT_FILENO, number(answer));
-    io::write_all(STDOUT_FILENO, b"\n");
+    io::print_decimal(STDOUT, number(answer));
+    io::write_all(STDOUT, b"\n");
     c.machine
 }
 

@@ -4,12 +4,12 @@
 
 use streams::Input;
 
-fn main() {
+fn main(rt: HostRuntime) {
     let mut input = io::large_buffer();
-    let Input::Bytes(got) = streams::read_input(&mut input) else {
+    let Input::Bytes(got) = streams::read_input(&rt, &mut input) else {
         return;
     };
     let mut text = [0u8; 64];
     let length = report::verdict_text(&input[..got], &mut text);
-    streams::write_output(&text[..length]);
+    streams::write_output(&rt, &text[..length]);
 }
