@@ -36,8 +36,8 @@ fn write_own(
     made: u32,
 )
     requires { (1 ≤ level) × (level ≤ 32) × (1 ≤ p) × (p ≤ 32) }
-    ensures fills { filled.exit.now ≡ (written (record { filled = filled.entry.now; values = values.old }) level p value made).filled }
-    ensures stores { values.new ≡ (written (record { filled = filled.entry.now; values = values.old }) level p value made).values }
+    ensures fills { filled.new ≡ (written (record { filled = filled.old; values = values.old }) level p value made).filled }
+    ensures stores { values.new ≡ (written (record { filled = filled.old; values = values.old }) level p value made).values }
 {
     if made == 0 {
         let row = (level - 1) as usize;
@@ -58,9 +58,9 @@ fn descend(
     found: u32,
 ) -> Landing
     requires { (level ≤ 32) × (1 ≤ p) × (p ≤ 32) }
-    ensures lands { result ≡ (descent level (record { filled = filled.entry.now; values = values.old }) p value made found).landing }
-    ensures fills { filled.exit.now ≡ (descent level (record { filled = filled.entry.now; values = values.old }) p value made found).registers.filled }
-    ensures stores { values.new ≡ (descent level (record { filled = filled.entry.now; values = values.old }) p value made found).registers.values }
+    ensures lands { result ≡ (descent level (record { filled = filled.old; values = values.old }) p value made found).landing }
+    ensures fills { filled.new ≡ (descent level (record { filled = filled.old; values = values.old }) p value made found).registers.filled }
+    ensures stores { values.new ≡ (descent level (record { filled = filled.old; values = values.old }) p value made found).registers.values }
 {
     if level == 0 {
         return Landing::Stuck;
