@@ -36,7 +36,7 @@ def decls(text):
 
 
 def snake(word):
-    return re.sub(r"(?<=[a-z0-9])([A-Z])", lambda m: "_" + m[1].lower(), word)
+    return re.sub(r"(?<=[a-z0-9])([A-Z])", lambda m: "_" + m[1].lower(), word.replace("getD", "get_or"))
 
 
 files = sorted(p for p in (top / "crates").rglob("*.antt") if "out" not in p.parts)

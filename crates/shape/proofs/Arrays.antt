@@ -45,7 +45,7 @@ every_more f i e e' = ap₂ ◌&&◌ e e' ∙ rw (add-one i)
 pub every_place : (g : ℕ → ℕ → Bool) (i : ℕ) {b ok : Bool} → b ≡ g (i + 1) i → ok ≡ every i (λ p. g p (p - 1)) → (b && ok) ≡ every (i + 1) (λ p. g p (p - 1))
 every_place g i e e' = every_more (λ p. g p (p - 1)) i (e ∙ ap (g (i + 1)) (sym (back_one i))) e'
 
-pub get_d_zeros : (n k : ℕ) → ◌≡◌ {A = ℕ} (get_or (replicate n 0) k 0) 0
-get_d_zeros zero k = refl
-get_d_zeros (suc n) zero = refl
-get_d_zeros (suc n) (suc k) = get_d_zeros n k
+pub get_or_zeros : (n k : ℕ) → ◌≡◌ {A = ℕ} (get_or (replicate n 0) k 0) 0
+get_or_zeros zero k = refl
+get_or_zeros (suc n) zero = refl
+get_or_zeros (suc n) (suc k) = get_or_zeros n k

@@ -254,13 +254,13 @@ lowest_is_wrote n row (Crashed l k f) x m u h = let q = level_low n row l k f h 
 -- ---- the test of the code is the test of the definitions
 
 -- an element of a map
-pub get_d_map_in : {A : Type 0} (g : A → ℕ) (d : A) (s : List A) (k : ℕ) → k < length s → get_or (map g s) k 0 ≡ g (get_or s k d)
-get_d_map_in g d [] k h = absurd (let z : ⊥ = omega arith in z)
-get_d_map_in g d (a ∷ s) zero h = refl
-get_d_map_in g d (a ∷ s) (suc k) h = get_d_map_in g d s k (omega arith)
+pub get_or-map_in : {A : Type 0} (g : A → ℕ) (d : A) (s : List A) (k : ℕ) → k < length s → get_or (map g s) k 0 ≡ g (get_or s k d)
+get_or-map_in g d [] k h = absurd (let z : ⊥ = omega arith in z)
+get_or-map_in g d (a ∷ s) zero h = refl
+get_or-map_in g d (a ∷ s) (suc k) h = get_or-map_in g d s k (omega arith)
 
-get_d_map_out : {A : Type 0} (g : A → ℕ) (s : List A) (k : ℕ) → length s ≤ k → get_or (map g s) k 0 ≡ 0
-get_d_map_out g s k h = get_or-eq_default (map g s) 0 (subst (λ (n : ℕ). n ≤ k) (sym (length-map s g)) h)
+get_or-map_out : {A : Type 0} (g : A → ℕ) (s : List A) (k : ℕ) → length s ≤ k → get_or (map g s) k 0 ≡ 0
+get_or-map_out g s k h = get_or-eq_default (map g s) 0 (subst (λ (n : ℕ). n ≤ k) (sym (length-map s g)) h)
 
 -- a record that has passed the tests has a stage that has
 stage_passed : (n : ℕ) (row : ℕ → ℕ) (i : ℕ) (P : Process) → shaped_process n row i P ≡ true → shaped_stage n row P.stage ≡ true
@@ -276,15 +276,15 @@ own_of m = owns_of m.processes
 
 module _ (m : Machine) (most : m.n ≤ 32) (slots : length m.processes ≡ 32) where
   low_at : (k : ℕ) → k < 32 → get_or (low_of m) k 0 ≡ lowest_row (get_or m.processes k nobody).stage
-  low_at k h = get_d_map_in (λ P. lowest_row P.stage) nobody m.processes k (omega arith)
+  low_at k h = get_or-map_in (λ P. lowest_row P.stage) nobody m.processes k (omega arith)
 
   own_at : (k : ℕ) → k < 32 → get_or (own_of m) k 0 ≡ (get_or m.processes k nobody).value
-  own_at k h = get_d_map_in (λ P. P.value) nobody m.processes k (omega arith)
+  own_at k h = get_or-map_in (λ P. P.value) nobody m.processes k (omega arith)
 
   pub low_high : LowestRows (low_of m)
   low_high k = elim (dec_lt k 32) [
     | yes h ↦ subst⁻¹ (λ (x : ℕ). x ≤ 33) (low_at k h) (lowest_high (get_or m.processes k nobody).stage)
-    | no h ↦ subst⁻¹ (λ (x : ℕ). x ≤ 33) (get_d_map_out (λ P. lowest_row P.stage) m.processes k (omega arith)) (omega arith)
+    | no h ↦ subst⁻¹ (λ (x : ℕ). x ≤ 33) (get_or-map_out (λ P. lowest_row P.stage) m.processes k (omega arith)) (omega arith)
   ]
 
   module _ (records : shaped_records m.n m.filled m.processes ≡ true) where

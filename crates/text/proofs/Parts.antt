@@ -65,9 +65,9 @@ joined_length c a (suc k) f h =
     length-append (f a) (joined (suc a) k f) ∙ omega (arith, h a, joined_length c (suc a) k f h, mul-suc c k)
 
 -- element r of part q
-pub joined_get_d : (c a k q r : ℕ) (f : ℕ → List ℕ) → ((i : ℕ) → length (f i) ≡ c) → q < k → r < c
+pub joined-get_or : (c a k q r : ℕ) (f : ℕ → List ℕ) → ((i : ℕ) → length (f i) ≡ c) → q < k → r < c
     → get_or (joined a k f) (c * q + r) 0 ≡ get_or (f (a + q)) r 0
-joined_get_d c a k q r f h l s =
+joined-get_or c a k q r f h l s =
     let z : k ≡ q + suc (k - q - 1) = omega arith in
     let R = joined (suc (a + q)) (k - q - 1) f in
     let A = joined a q f in

@@ -8,14 +8,14 @@ use lib.ListN.{get_or, length-set}
 use Rattle.sets.specs.Sets.{every}
 use Rattle.rules.specs.Stands.{nobody}
 use Rattle.shape.specs.Coded.Columns.{lowest_row, lows_of}
-use Rattle.shape.proofs.Arrays.{upto_none, upto_more, upto_map, get_d_zeros, every_place}
-use Rattle.shape.proofs.Rows.{by_row_none, by_row_more, lowest_high, get_d_map_in}
+use Rattle.shape.proofs.Arrays.{upto_none, upto_more, upto_map, get_or_zeros, every_place}
+use Rattle.shape.proofs.Rows.{by_row_none, by_row_more, lowest_high, get_or-map_in}
 use Rattle.shape.proofs.read_off.Invariants.{stands}
 use Rattle.shape.proofs.read_off.Goals as goal
 
 pub loop-i-init : goal.loop-i-init
 unfolding every
-loop-i-init c = (omega arith, refl, refl, refl, upto_none, upto_none, by_row_none _ _ (get_d_zeros 34), refl)
+loop-i-init c = (omega arith, refl, refl, refl, upto_none, upto_none, by_row_none _ _ (get_or_zeros 34), refl)
 
 pub bounds-own-i : goal.bounds-own-i
 bounds-own-i c = omega arith
@@ -54,7 +54,7 @@ loop-i-preserved c =
       upto_more _ (omega arith) refl l.invariant.5,
       rw c.plus.ensures
           (by_row_more (lows_of ps) l.buckets l.i c.lowest-x.result
-          (x ∙ sym (get_d_map_in (λ P. lowest_row P.stage) nobody ps l.i (omega arith))) (omega arith) l.invariant.3 l.invariant.6),
+          (x ∙ sym (get_or-map_in (λ P. lowest_row P.stage) nobody ps l.i (omega arith))) (omega arith) l.invariant.3 l.invariant.6),
       every_place (stands a.n a.filled.now ps) l.i c.process_good-stands.ensures l.invariant.7,
     )
 
