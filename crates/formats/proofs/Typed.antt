@@ -14,7 +14,7 @@ use borrow.Rule.Slice.Shared.{OwnH}
 use borrow.Rule.Slice.Know.{AllWt, Fit, fit_at, shs_known}
 use Rattle.formats.specs.Promises.{Bytes, File}
 
--- what the proof of a function is given of a `&[u8]` (`shared-slice-known`) or a `&mut [u8]` (`slice-known`) that the function is handed
+-- what the proof of a function is given of a `&[u8]` or a `&mut [u8]` that the function is handed (`type_inv`)
 abbrev pub IsSlice : List ℕ → Type 0
 IsSlice s = Fit (f_int w8) 0 s
 
