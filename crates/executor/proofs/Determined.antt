@@ -16,8 +16,8 @@ use Rattle.executor.specs.contracts.slot as slot
 use Rattle.executor.proofs.in_slot.Kinds as in-slot-kinds
 use Rattle.executor.proofs.in_slot.Reads as in-slot-reads
 
--- The checker has no reading of a contract over a reference to a struct, so `slot`'s is taken as it stands in the logic: what it ensures of
--- two answers and of the references at exit entails that the answers are equal, and the machines at exit too.
+-- `slot`'s contract is taken as it stands in the logic: what it ensures of two answers and of the references at exit entails that the answers are
+-- equal, and the machines at exit too.
 module _ {M : Type 1} {𝓤 : Ura M} (𝓛 : Logic 𝓤) (mem : Memory → SProp 𝓤) (run : Routine → Fun 𝓤)
     (κs : Lfts 1) (a : Args slot.signature κs) where
   abbrev Ensures : Answer → AtExit slot.ended κs → SProp 𝓤

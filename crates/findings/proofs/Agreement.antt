@@ -15,7 +15,7 @@ use Rattle.sets.proofs.Laws.{every_true, true_every, every_ext}
 use Rattle.sets.proofs.Bits.{has_and}
 use Rattle.formats.specs.Views.{cell}
 use Rattle.findings.specs.declared.Finding.{Finding}
-use Rattle.findings.specs.declared.Finding.TheVariants.{Nothing, Apart, Unlike, Disagree}
+use Rattle.findings.specs.declared.Finding.TheVariants.{Apart, Unlike, Disagree}
 use Rattle.findings.specs.Findings.{only, View, view, same_at, agree, inside_at, inside, facing, breaks, first_break}
 
 -- the place of a view's value for process k + 1
@@ -87,15 +87,3 @@ breaks_disagreeing x y i j e = rw e
 
 pub nestings_of : {a b c a' b' c' : Bool} → a ≡ a' → b ≡ b' → c ≡ c' → first_break (nestings a b c) ≡ first_break (nestings a' b' c')
 nestings_of p q r = λ i. first_break (nestings (p i) (q i) (r i))
-
-pub nestings_equal : (f : Bool) → Nothing ≡ first_break (nestings true true f)
-nestings_equal true = refl
-nestings_equal false = refl
-
-pub nestings_one : (f : Bool) → first_break (only f Unlike) ≡ first_break (nestings true false f)
-nestings_one true = refl
-nestings_one false = refl
-
-pub nestings_other : (f : Bool) → first_break (only f Unlike) ≡ first_break (nestings false true f)
-nestings_other true = refl
-nestings_other false = refl

@@ -1,4 +1,4 @@
--- The verdict of what was read, put together from its parts, and what it promises of a file.
+-- What the verdict of a file promises of it.
 use Prim.Native.Nat.{ℕ, ◌≤◌, ◌<◌}
 use mathlib.Core.List.{List}
 use mathlib.Core.Logic.{◌≢◌, ◌↔◌, ◌⊎◌, inl, inr, ⊎_elim}
@@ -6,13 +6,12 @@ use mathlib.Core.Bool.{Bool, true, false, cond}
 use mathlib.Core.Path.{◌≡◌, refl, sym, ap, ◌∙◌}
 use native.Mathlib.Omega.{arith}
 use lib.Dec.{eqb}
-use borrow.Author.Tests.{eq-eqb, ne_eqb, eqb-false}
+use borrow.Author.Tests.{ne_eqb, eqb-false}
 use Rattle.sets.proofs.Laws.{either}
 use Rattle.formats.specs.declared.FileAnswer.{FileAnswer}
 use Rattle.formats.specs.declared.FileAnswer.TheVariants.{Whole, OutOfRange, NotHeader, OtherMark, MarkCut, BodyCut, HeaderAgain}
 use Rattle.formats.specs.declared.FileAnswer.TheVariants.{BudgetSpent, NoProcess, SecondView, NamesAbove}
 use Rattle.formats.specs.declared.Views.{Views}
-use Rattle.formats.specs.declared.ViewsRead.{ViewsRead}
 use Rattle.formats.specs.Numbers.{file_number, is_whole}
 use Rattle.formats.specs.ViewFile.{read_of}
 use Rattle.findings.specs.declared.Finding.{Finding}
@@ -20,7 +19,7 @@ use Rattle.findings.specs.declared.Finding.TheVariants.{Nothing, LacksItself, Ap
 use Rattle.findings.specs.declared.Found.{Found}
 use Rattle.findings.specs.declared.FileVerdict.{FileVerdict}
 use Rattle.findings.specs.Findings.{finding_number, is_finding, findings, check_of}
-use Rattle.findings.specs.Verdict.{judged, unread, verdict_by, verdict_of}
+use Rattle.findings.specs.Verdict.{judged, unread, verdict_of}
 use Rattle.findings.specs.Properties.{Obeys}
 use Rattle.findings.specs.Statements.{RefusedFirst, ReadThenChecked, VerdictNumbers, EveryVerdictNumbered, EveryCutJudged, YesExactly}
 use Rattle.formats.proofs.WholeFile.{read_place}
@@ -28,23 +27,6 @@ use Rattle.formats.proofs.Cuts.{every_cut_exactly}
 use Rattle.findings.proofs.First.{none_first}
 use Rattle.findings.proofs.Accepts.{accepts_exactly}
 use Rattle.findings.proofs.FirstBreak.{real_findings, yes_is_no_finding}
-
-abbrev pub parts : ℕ → ℕ → ℕ → ℕ → FileVerdict
-parts k at i j = record { number = k; place = at; i = i; j = j }
-
-pub verdict-read : (r : ViewsRead) (f : Found) (k : ℕ) → file_number r.answer ≡ 0 → f ≡ check_of r.views → k ≡ finding_number f.finding
-    → parts k r.place f.i f.j ≡ verdict_by r
-verdict-read r f k z e n =
-    ap (λ (x : ℕ). parts x r.place f.i f.j) n
-    ∙ ap (judged r.place) e
-    ∙ sym (ap (λ (b : Bool). cond b (judged r.place (check_of r.views)) (unread (file_number r.answer) r.place))
-    (eq-eqb (file_number r.answer) 0 z))
-
-pub verdict-refused : (r : ViewsRead) (k : ℕ) → k ≡ file_number r.answer → (k ≡ 0 → ⊥) → parts k r.place 0 0 ≡ verdict_by r
-verdict-refused r k e n =
-    ap (λ (x : ℕ). parts x r.place 0 0) e
-    ∙ sym (ap (λ (b : Bool). cond b (judged r.place (check_of r.views)) (unread (file_number r.answer) r.place))
-    (ne_eqb (file_number r.answer) 0 (λ z. n (e ∙ z))))
 
 -- The verdict of a file, from what its reading answers.
 verdict_if : (s : List ℕ) (b : Bool) → is_whole (read_of s).answer ≡ b

@@ -1,13 +1,10 @@
 -- Tests that say the same.
-use Prim.Native.Nat.{ℕ, ◌+◌, ◌≤◌}
-use mathlib.Core.Bool.{Bool, true}
+use Prim.Native.Nat.{ℕ, ◌≤◌}
+use mathlib.Core.Bool.{Bool}
 use mathlib.Core.Path.{◌≡◌, sym, ◌∙◌}
-use mathlib.Core.List.{List}
 use lib.Dec.{leb}
-use lib.ListN.{length}
 use borrow.Author.Tests.{leb-true, le-leb}
 use Rattle.sets.proofs.Laws.{same_truth}
-use Rattle.formats.specs.Records.{fits}
 
 pub leb_same : (a b c d : ℕ) → (a ≤ b → c ≤ d) → (c ≤ d → a ≤ b) → leb a b ≡ leb c d
 leb_same a b c d f g = same_truth (leb a b) (leb c d) (λ e. le-leb c d (f (leb-true a b e))) (λ e. le-leb a b (g (leb-true c d e)))
@@ -15,7 +12,3 @@ leb_same a b c d f g = same_truth (leb a b) (leb c d) (λ e. le-leb c d (f (leb-
 -- what a test gave, of the definition that its answer equals
 pub told : {r t b : Bool} → r ≡ t → r ≡ b → t ≡ b
 told e f = sym e ∙ f
-
--- where a test says that a record fits, its end is within the file
-pub room : (s : List ℕ) (at body : ℕ) {r : Bool} → r ≡ fits s at body → r ≡ true → at + 2 + body ≤ length s
-room s at body e f = leb-true (at + 2 + body) (length s) (told e f)

@@ -9,7 +9,7 @@ use lib.ListN.{length}
 use borrow.Author.Tests.{leb-true, le-leb, lt-leb}
 use Rattle.sets.specs.Members.{tick}
 use Rattle.rules.specs.declared.Machine.{Machine}
-use Rattle.rules.specs.Calls.{accepted, fresh}
+use Rattle.rules.specs.Calls.{accepted}
 use Rattle.history.specs.Runs.{Call, enters, steps, crashes, answer, from, tally, is_step, accepted_step, is_refused}
 use Rattle.formats.specs.declared.FileAnswer.{FileAnswer}
 use Rattle.formats.specs.declared.FileAnswer.TheVariants.{Whole, BudgetSpent, BodyCut}
@@ -20,7 +20,7 @@ use Rattle.formats.specs.Records.{byte_at, word_at, fits, mark_of, mark_at, orde
 use Rattle.replays.specs.declared.Counts.{Counts}
 use Rattle.replays.specs.declared.Replayed.{Replayed}
 use Rattle.replays.specs.Replays.{Orders, ended, then, order_then, orders_from, replayed}
-use Rattle.replays.specs.Coded.Turns.{none, took, ends, resumed}
+use Rattle.replays.specs.Coded.Turns.{took, ends, resumed}
 use Rattle.world.specs.Calls.{counts, leaves}
 
 -- The counts of one order more.
@@ -53,10 +53,6 @@ resumed-took s r m c o =
 pub resumed-ended : (s : List ℕ) (r : Counts) (m : Machine) (a : FileAnswer) (at : ℕ) → ends s a at r m ≡ resumed s r m (ended a at)
 unfolding counts leaves
 resumed-ended s r m a at = alike a (place_of a at (length s)) m (omega arith) (omega arith) (omega arith)
-
-pub resumed-none : (s : List ℕ) (n : ℕ) (o : Orders) → resumed s none (fresh n) o ≡ replayed s n o
-resumed-none s n o =
-    alike o.answer (place_of o.answer o.place (length s)) (from (fresh n) o.calls) (omega arith) (omega arith) (omega arith)
 
 -- how many bytes an order has
 abbrev pub width : Order → ℕ
@@ -130,17 +126,6 @@ pub record Going (s : List ℕ) (n budget : ℕ) (r : Counts) (m : Machine) (at 
   pub accesses : r.accesses ≤ r.taken
   pub refused : r.refused ≤ r.taken
   pub left : resumed s r m (orders_from (budget - r.taken) s at) ≡ replayed s n (orders_from budget s 3)
-
-pub going_none : (s : List ℕ) (n budget : ℕ) → 3 ≤ length s → Going s n budget none (fresh n) 3
-going_none s n budget h =
-    let e : budget - 0 ≡ budget = omega arith in
-    record {
-      inside = h;
-      taken = omega arith;
-      accesses = omega arith;
-      refused = omega arith;
-      left = ap (λ (k : ℕ). resumed s none (fresh n) (orders_from k s 3)) e ∙ resumed-none s n (orders_from budget s 3);
-    }
 
 module _ (s : List ℕ) (n budget : ℕ) (r : Counts) (m : Machine) (at : ℕ) (g : Going s n budget r m at) where
   over : (a : FileAnswer) (p : ℕ) → orders_from (budget - r.taken) s at ≡ ended a p → ends s a p r m ≡ replayed s n (orders_from budget s 3)

@@ -3,9 +3,8 @@ use Prim.Native.Nat.{ℕ, zero, suc, ◌+◌, ◌-◌, ◌*◌, ◌^◌, ◌≤�
 use mathlib.Core.Bool.{Bool, true, false, cond}
 use mathlib.Core.Path.{◌≡◌, sym, ap, ◌∙◌}
 use mathlib.Core.List.{List, [], ◌∷◌, ◌++◌}
-use native.Mathlib.Nat.{min-eq_left}
 use native.Mathlib.Omega.{arith}
-use lib.ListN.{length, get_or, take, length-append, length-take}
+use lib.ListN.{length, get_or, length-append}
 use Rattle.sets.specs.Members.{has}
 use Rattle.sets.proofs.Laws.{count_le}
 use Rattle.rules.specs.declared.Machine.{Machine}
@@ -159,7 +158,3 @@ pub whole : {b x text b' : List ℕ} {r : ℕ} → text ≡ x → Room b 0 x →
 whole {b} {x} {text} {b'} {r} e h s =
     let n : r ≡ length x = omega (arith, s.next) in
     ((n ∙ ap length (sym e), omega (arith, h.fits, stored_length s)), stored_over h s ∙ ap (λ (t : List ℕ). over t b) (sym e))
-
--- so much of it as a part
-pub part_length : (r : ℕ) (b : List ℕ) → r ≤ length b → r ≡ length (take r b)
-part_length r b h = sym (length-take r b ∙ min-eq_left h)

@@ -1,5 +1,7 @@
 -- What a call of C's read or write came to, and how many bytes an input may have.
-use Rattle.std.specs.Prelude.{ℕ, zero, suc, ◌≡◌, cond, List, eqb, ℤ, pos, negsuc}
+use Rattle.std.specs.Prelude.{ℕ, zero, suc, ◌≡◌, ◌≢◌, cond, List, eqb, ℤ, pos, negsuc, Result, Ok, Err, unwrap_or}
+use Rattle.std.specs.IoError.{raw_os_error}
+use Rattle.std.specs.declared.io.Error.{Error}
 use Rattle.io.specs.Counts.{IsPrefixLen}
 use Rattle.streams.specs.declared.Outcome.{Outcome}
 use Rattle.streams.specs.declared.Input.{Input}
@@ -15,6 +17,11 @@ outcome_of (pos zero) e = Outcome.Nothing
 outcome_of (pos (suc k)) e = Outcome.Moved
 outcome_of (negsuc k) e = failed_by e
 
+-- the same of a call's result: one that failed answered -1, and left the system's number of its error, or 0 where it has none
+abbrev pub came_to : Result ℕ Error → Outcome
+came_to (Ok k) = outcome_of (pos k) (pos 0)
+came_to (Err e) = outcome_of (negsuc 0) (unwrap_or (raw_os_error e) (pos 0))
+
 -- A failed read is not the end of the input, and an interrupted one is neither.
 pub record Examples : Type 0 where
   pub some : outcome_of (pos 47) (pos 0) ≡ Outcome.Moved
@@ -29,6 +36,10 @@ pub record Examples : Type 0 where
   -- an error that an earlier call left says nothing of one that did not fail
   pub some_after : outcome_of (pos 1) (pos 21) ≡ Outcome.Moved
   pub end_after : outcome_of (pos 0) (pos 4) ≡ Outcome.Nothing
+
+-- a call that failed, whatever its error, is not the end of the input
+abbrev pub FailedIsNoEnd : Type 0
+FailedIsNoEnd = (e : Error) → came_to (Err e) ≢ Outcome.Nothing
 
 -- what has come is at the start of the buffer xs
 abbrev pub Within : Input → List ℕ → Type 0

@@ -4,7 +4,7 @@
 #![tactic(auto)]
 
 ghost use Rattle.std.specs.Prelude.{◌≡◌, ◌≤◌, length};
-ghost use Rattle.streams.specs.Outcomes.{outcome_of, Within};
+ghost use Rattle.streams.specs.Outcomes.{outcome_of, came_to, Within};
 
 use std::io;
 use std::io::{ErrorKind, Read, Write};
@@ -45,7 +45,9 @@ fn outcome_of(moved: isize, error: i32) -> Outcome
 }
 
 // The same of a call's result: its answer is -1 where it failed.
-fn came_to(got: &io::Result<usize>) -> Outcome {
+fn came_to(got: &io::Result<usize>) -> Outcome
+    ensures { result ≡ came_to got.now }
+{
     match got {
         Ok(moved) => outcome_of(isize::try_from(*moved).unwrap_or(isize::MAX), 0),
         Err(e) => outcome_of(-1, e.raw_os_error().unwrap_or(0)),

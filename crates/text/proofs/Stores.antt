@@ -80,9 +80,6 @@ pub record Left (b₀ : List ℕ) (at : ℕ) (all b : List ℕ) (place : ℕ) (r
   pub room : place + length rest ≡ at + length all
   pub left : put b place rest ≡ put b₀ at all
 
-pub left_start : (b : List ℕ) (at : ℕ) (all : List ℕ) → Left b at all b at all
-left_start b at all = record { same = refl; room = refl; left = refl }
-
 pub left_room : {b₀ all b rest : List ℕ} {at place : ℕ} → Room b₀ at all → Left b₀ at all b place rest → Room b place rest
 left_room h l = record { fits = omega (arith, h.fits, l.same, l.room) }
 
@@ -108,10 +105,6 @@ left_none {b₀} {all} {b} {rest} {at} {place} l e =
 pub record Word (b₀ : List ℕ) (at : ℕ) (x b : List ℕ) (i : ℕ) : Type 0 where
   pub most : i ≤ length x
   pub bytes : Left b₀ at x b (at + i) (drop i x)
-
-pub word-start : (b : List ℕ) (at : ℕ) (x : List ℕ) → Word b at x b 0
-word-start b at x =
-    let e : at ≡ at + 0 = omega arith in record { most = omega arith; bytes = subst (λ (k : ℕ). Left b at x b k x) e (left_start b at x) }
 
 pub word_next : {b₀ x b : List ℕ} {at i : ℕ} → Word b₀ at x b i → i < length x → Word b₀ at x (set b (at + i) (get_or x i 0)) (i + 1)
 word_next {b₀} {x} {b} {at} {i} w h =
