@@ -1,21 +1,21 @@
 // What both kinds of file hold and what a file call answers (document 01, "Files"). The formats themselves are the definitions in specs/.
 #![tactic(auto)]
 
-// What a file call answers; `file_number` of specs/Numbers gives the number for each. A record cut off by the end of the file breaks off in its mark, after
-// one byte, or in its body.
-#[derive(Clone, Copy)]
+// What a file call answers, each with its number, which `file_number` of specs/Numbers gives. A record cut off by the end of the file breaks off in its mark,
+// after one byte, or in its body.
+#[derive(Clone, Copy, PartialEq, Eq)]
 pub enum FileAnswer {
-    Whole,
-    OutOfRange,
-    NotHeader,
-    OtherMark,
-    MarkCut,
-    BodyCut,
-    HeaderAgain,
-    BudgetSpent,
-    NoProcess,
-    SecondView,
-    NamesAbove,
+    Whole = 0,
+    OutOfRange = 8,
+    NotHeader = 9,
+    OtherMark = 10,
+    MarkCut = 11,
+    BodyCut = 24,
+    HeaderAgain = 12,
+    BudgetSpent = 13,
+    NoProcess = 14,
+    SecondView = 15,
+    NamesAbove = 16,
 }
 
 // What stands at a record's place: nothing, one byte, or a mark.

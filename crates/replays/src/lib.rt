@@ -23,12 +23,12 @@ pub struct Counts {
     pub refused: u32,
 }
 
-// What the view writer answers; `write_number` of specs/Writes gives document 01's number for each.
-#[derive(Clone, Copy)]
+// What the view writer answers, each with document 01's number, which `write_number` of specs/Writes gives.
+#[derive(Clone, Copy, PartialEq, Eq)]
 pub enum WriteAnswer {
-    Done,
-    NotShaped,
-    TooShort,
+    Done = 0,
+    NotShaped = 1,
+    TooShort = 17,
 }
 
 #[derive(Clone, Copy)]

@@ -2,7 +2,7 @@
 #![tactic(auto)]
 
 // Where a process stands, with what that stage needs (rule 2).
-#[derive(Clone, Copy)]
+#[derive(Clone, Copy, PartialEq, Eq)]
 pub enum Stage {
     Absent,
     Running { level: u32, made: u32, found: u32 },
@@ -26,18 +26,18 @@ pub struct Machine {
     pub processes: [Process; 32],
 }
 
-// What a call answers; `number_of` of specs/Calls gives document 01's number for each.
-#[derive(Clone, Copy)]
+// What a call answers, each with document 01's number, which `number_of` of specs/Calls gives.
+#[derive(Clone, Copy, PartialEq, Eq)]
 pub enum Answer {
-    Done,
-    NotShaped,
-    NoProcess,
-    EnteredBefore,
-    NeverEntered,
-    HasCrashed,
-    HasFinished,
-    NoLevelBelow,
-    OutOfRange,
+    Done = 0,
+    NotShaped = 1,
+    NoProcess = 2,
+    EnteredBefore = 3,
+    NeverEntered = 4,
+    HasCrashed = 5,
+    HasFinished = 6,
+    NoLevelBelow = 7,
+    OutOfRange = 8,
 }
 
 #[derive(Clone, Copy)]
@@ -47,7 +47,7 @@ pub struct Called {
 }
 
 // A stage by name alone.
-#[derive(Clone, Copy)]
+#[derive(Clone, Copy, PartialEq, Eq)]
 pub enum Standing {
     Absent,
     Running,
