@@ -3,33 +3,32 @@
 #![tactic(auto)]
 
 ghost use Rattle.std.specs.Prelude.{◌≡◌};
-ghost use Rattle.sets.specs.Members.{has, size};
+ghost use Rattle.sets.specs.Members.{known, has, size};
 ghost use Rattle.sets.specs.Sets.{plus, first, within, upwards};
+
+// A set can hold process i.
+fn known(i: u32) -> bool
+    ensures { result ≡ known i }
+{
+    1 <= i && i <= 32
+}
 
 // Process i is in the set s. A number outside 1 to 32 is in no set.
 pub fn has(s: u32, i: u32) -> bool
     ensures { result ≡ has s i }
 {
-    if i < 1 {
-        return false;
-    }
-    if 32 < i {
-        return false;
-    }
-    (s >> (i - 1)) % 2 == 1
+    known(i) && (s >> (i - 1)) % 2 == 1
 }
 
 // The set s with process i in it. A number outside 1 to 32 changes nothing.
 pub fn plus(s: u32, i: u32) -> u32
     ensures { result ≡ plus s i }
 {
-    if i < 1 {
-        return s;
+    if known(i) {
+        s | (1 << (i - 1))
+    } else {
+        s
     }
-    if 32 < i {
-        return s;
-    }
-    s | (1 << (i - 1))
 }
 
 // The processes 1 to k. A k above 32 gives all 32.
@@ -37,7 +36,7 @@ pub fn first(k: u32) -> u32
     ensures { result ≡ first k }
 {
     if 32 < k {
-        return 4294967295;
+        return u32::MAX;
     }
     ((1u64 << k) - 1) as u32
 }
@@ -53,7 +52,7 @@ pub fn within(s: u32, t: u32) -> bool
 pub fn size(s: u32) -> u32
     ensures { result ≡ size s }
 {
-    u32::count_ones(s)
+    s.count_ones()
 }
 
 // The processes of s from the number `from` on.
