@@ -2,21 +2,12 @@
 use mathlib.Core.Path.{sym, ap, ◌∙◌}
 use Prim.Native.Nat.{ℕ, ◌-◌}
 use native.Mathlib.Omega.{arith}
-use lib.Pow.{pow_pos, pow_mono}
 use Rattle.sets.proofs.Laws.{first_some, first_all}
 use Rattle.sets.proofs.Bits.{one_shifted}
 use Rattle.sets.proofs.first.Goals as goal
 
 pub returns-then-k-gt32 : goal.returns-then-k-gt32
 returns-then-k-gt32 c = sym (first_all c.args.k (omega arith))
-
-pub overflow_sub-result : goal.overflow_sub-result
-overflow_sub-result c = let k = c.args.k in omega (arith, one_shifted k 64 (omega arith), pow_pos k)
-
-pub overflow_cast-result-2 : goal.overflow_cast-result-2
-overflow_cast-result-2 c =
-    let k = c.args.k in
-    record { fits = omega (arith, one_shifted k 64 (omega arith), pow_pos k, pow_mono {i = k} {j = 32} (omega arith)) }
 
 pub returns : goal.returns
 returns c =
