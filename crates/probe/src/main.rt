@@ -1,6 +1,6 @@
-// Replays an order file with a budget and writes the views of the state that it leaves, on the compiled code, for `scripts/compare`. Input: the budget (4 bytes)
-// and the room for the view file (2 bytes), little-endian, then the order file. It prints the run's line, what the view writer answers, and then the
-// whole of the buffer that was lent, each byte of which was a dot before.
+// Replays an order file with a budget and writes the views of the state that it leaves, on the compiled code, for `scripts/compare`. Input: the budget
+// (4 bytes) and the room for the view file (2 bytes), little-endian, then the order file. It prints the run's line, what the view writer answers, and
+// then the whole of the buffer that was lent, each byte of which was a dot before.
 #![tactic(auto)]
 
 use std::io;

@@ -102,9 +102,9 @@ fn obey(rt: &impl Print, m: Machine, line: &[u8; 14]) -> io::Result<Machine> {
 }
 
 fn main(rt: HostRuntime) -> io::Result<()> {
-    let mut script = [0; 65536];
+    let mut buffer = [0; 65536];
     let mut m = fresh(1);
-    if let Some(script) = streams::read_input(&rt, &mut script) {
+    if let Some(script) = streams::read_input(&rt, &mut buffer) {
         for line in script.as_chunks().0 {
             m = obey(&rt, m, line)?;
         }

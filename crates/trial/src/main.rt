@@ -1,5 +1,6 @@
 // Runs a script of calls on the compiled machine and prints what they answer: document 01's machine examples, and its printed run with each step in a
-// slot of the executor. The gate compares that with the stored output. A line of the script is seven bytes, `X NN V` and a line end: a letter, a process number (or n), a value of one digit.
+// slot of the executor. The gate compares that with the stored output. A line of the script is seven bytes, `X NN V` and a line end: a letter, a process
+// number (or n), a value of one digit.
 #![tactic(auto)]
 
 ghost use Rattle.std.specs.Prelude.{◌<◌};
@@ -110,9 +111,9 @@ fn obey(rt: &impl Print, m: Machine, line: &[u8; 7]) -> io::Result<Machine> {
 }
 
 fn main(rt: HostRuntime) -> io::Result<()> {
-    let mut script = [0; 4096];
+    let mut buffer = [0; 4096];
     let mut m = machine::new(1).machine;
-    if let Some(script) = streams::read_input(&rt, &mut script) {
+    if let Some(script) = streams::read_input(&rt, &mut buffer) {
         for line in script.as_chunks().0 {
             m = obey(&rt, m, line)?;
         }
