@@ -2,14 +2,11 @@
 // it prints nothing.
 #![tactic(auto)]
 
-use streams::Input;
-
 fn main(rt: HostRuntime) {
-    let mut input = io::large_buffer();
-    let Input::Bytes(got) = streams::read_input(&rt, &mut input) else {
-        return;
-    };
-    let mut text = [0u8; 16384];
-    let length = report::replay_text(&input[..got], &mut text);
-    streams::write_output(&rt, &text[..length]);
+    let mut input = [0; 65536];
+    if let Some(orders) = streams::read_input(&rt, &mut input) {
+        let mut text = [0; 16384];
+        let length = report::replay_text(orders, &mut text);
+        streams::write_output(&rt, &text[..length]);
+    }
 }

@@ -1,30 +1,27 @@
 -- The examples of specs/Outcomes, computed; and that a failure is not the end of the input.
-use Rattle.std.proofs.Common.{◌≢◌, Bool, true, false, cond, refl, rules}
-use Rattle.std.specs.Prelude.{ℤ, pos, negsuc, eqb, unwrap_or}
+use Rattle.std.proofs.Common.{ap, refl, rules}
+use Rattle.std.specs.Prelude.{◌≢◌, Option, Some, None, ℤ, pos, negsuc}
 use Rattle.std.specs.IoError.{raw_os_error}
+use Rattle.std.specs.declared.io.Error.{Error}
 use Rattle.streams.specs.declared.Outcome.{Outcome}
 use Rattle.streams.specs.Outcomes.{failed_by, Examples, FailedIsNoEnd}
 
 pub examples : Examples
 examples =
     record {
-      some = refl;
+      some = λ k. refl;
       end = refl;
-      directory = refl;
-      closed = refl;
-      full = refl;
-      interrupted = refl;
-      some_after = refl;
-      end_after = refl;
+      directory = λ e h. ap (λ n. failed_by n e) h;
+      closed = λ e h. ap (λ n. failed_by n e) h;
+      full = λ e h. ap (λ n. failed_by n e) h;
+      interrupted = λ e h. ap (λ n. failed_by n e) h;
+      unnumbered = λ e h. ap (λ n. failed_by n e) h;
     }
 
-again_or_failed : (b : Bool) → cond b Outcome.Interrupted Outcome.Failed ≢ Outcome.Nothing
-again_or_failed true = search rules
-again_or_failed false = search rules
-
-failed_ends_nothing : (z : ℤ) → failed_by z ≢ Outcome.Nothing
-failed_ends_nothing (pos e) = again_or_failed (eqb e 4)
-failed_ends_nothing (negsuc e) = again_or_failed false
+failed_ends_nothing : (n : Option ℤ) (e : Error) → failed_by n e ≢ Outcome.Nothing
+failed_ends_nothing (Some (pos k)) e = grind rules
+failed_ends_nothing (Some (negsuc k)) e = search rules
+failed_ends_nothing None e = search rules
 
 pub failed_is_no_end : FailedIsNoEnd
-failed_is_no_end e = failed_ends_nothing (unwrap_or (raw_os_error e) (pos 0))
+failed_is_no_end e = failed_ends_nothing (raw_os_error e) e

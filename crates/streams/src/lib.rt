@@ -3,11 +3,11 @@
 // interruptions end; no run uses so many up.
 #![tactic(auto)]
 
-ghost use Rattle.std.specs.Prelude.{◌≡◌, ◌≤◌, length};
-ghost use Rattle.streams.specs.Outcomes.{outcome_of, came_to, Within};
+ghost use Rattle.std.specs.Prelude.{◌≡◌, ◌≤◌, length, IfSome};
+ghost use Rattle.streams.specs.Outcomes.{came_to};
 
-use std::io;
 use std::io::{ErrorKind, Read, Write};
+use std::{fmt, io};
 
 // The error of a call that a signal interrupted before it moved a byte.
 const EINTR: i32 = 4;
@@ -15,86 +15,55 @@ const EINTR: i32 = 4;
 // What one call of read or write came to.
 #[derive(Clone, Copy)]
 pub enum Outcome {
-    Moved,
+    Moved(usize),
     Nothing,
     Interrupted,
-    Failed,
+    Failed(io::Error),
 }
 
-// What came from standard input: so many bytes, which stand at the start of the buffer; or it could not be read.
-#[derive(Clone, Copy)]
-pub enum Input {
-    Bytes(usize),
-    Unread,
-}
-
-// What a call came to, by its answer and by the error that it left.
-fn outcome_of(moved: isize, error: i32) -> Outcome
-    ensures { result ≡ outcome_of moved error }
-{
-    if 0 < moved {
-        return Outcome::Moved;
-    }
-    if moved == 0 {
-        return Outcome::Nothing;
-    }
-    if error == EINTR {
-        return Outcome::Interrupted;
-    }
-    Outcome::Failed
-}
-
-// The same of a call's result: its answer is -1 where it failed.
-fn came_to(got: &io::Result<usize>) -> Outcome
-    ensures { result ≡ came_to got.now }
+// What a call came to, by its result.
+fn came_to(got: io::Result<usize>) -> Outcome
+    ensures { result ≡ came_to got }
 {
     match got {
-        Ok(moved) => outcome_of(isize::try_from(*moved).unwrap_or(isize::MAX), 0),
-        Err(e) => outcome_of(-1, e.raw_os_error().unwrap_or(0)),
+        Ok(0) => Outcome::Nothing,
+        Ok(moved) => Outcome::Moved(moved),
+        Err(e) if e.raw_os_error() == Some(EINTR) => Outcome::Interrupted,
+        Err(e) => Outcome::Failed(e),
     }
 }
 
-// Says on standard error what failed, and why.
-fn fail(rt: &impl Eprint, what: &str, got: io::Result<usize>) {
-    let _ = match got {
-        Ok(_) => eprintln!(rt; "{what}: no byte was taken"),
-        Err(e) => eprintln!(rt; "{what}: {e}"),
-    };
-}
-
-// Standard input could not be read: says so.
-fn unread(rt: &impl Eprint, got: io::Result<usize>) -> Input
-    ensures { result ≡ Input.Unread }
+// Standard input could not be read: says why on standard error.
+fn unread<'b>(rt: &impl Eprint, e: io::Error) -> Option<&'b [u8]>
+    ensures { result ≡ None }
 {
-    fail(rt, "standard input cannot be read", got);
-    Input::Unread
+    let _ = eprintln!(rt; "standard input cannot be read: {e}");
+    None
 }
 
-// Reads standard input until it ends or the buffer is full.
-pub fn read_input(rt: &(impl io::Input + Eprint), buffer: &mut [u8]) -> Input
-    ensures { Within result buffer.new }
+// Reads standard input until it ends or the buffer is full; answers what came, which is the start of the buffer, or nothing where it could not be read.
+pub fn read_input<'b>(rt: &(impl io::Input + Eprint), buffer: &'b mut [u8]) -> Option<&'b [u8]>
+    ensures { IfSome result (λ came. length came.now ≤ length buffer.old) }
 {
     let mut stdin = rt.reader();
-    let mut done: usize = 0;
+    let mut done = 0;
     for _ in 0..u64::MAX {
         if buffer.len() <= done {
-            return Input::Bytes(done);
+            return Some(&buffer[..done]);
         }
-        let got = stdin.read(&mut buffer[done..]);
-        match came_to(&got) {
-            Outcome::Moved => {
-                done += got.unwrap_or(0);
-            }
-            Outcome::Nothing => {
-                return Input::Bytes(done);
-            }
+        match came_to(stdin.read(&mut buffer[done..])) {
+            Outcome::Moved(more) => done += more,
+            Outcome::Nothing => return Some(&buffer[..done]),
             Outcome::Interrupted => {}
-            Outcome::Failed => {
-                return unread(rt, got);
-            }
+            Outcome::Failed(e) => return unread(rt, e),
         }
     }
-    unread(rt, Err(ErrorKind::Interrupted.into()))
+    unread(rt, ErrorKind::Interrupted.into())
+}
+
+// Standard output could not be written: says why on standard error.
+fn unwritten(rt: &impl Eprint, why: impl fmt::Display + Drop) {
+    let _ = eprintln!(rt; "standard output cannot be written: {why}");
 }
 
 // Writes the text to standard output; answers how many bytes of it were written: fewer than all only after a failure.
@@ -102,26 +71,24 @@ pub fn write_output(rt: &(impl Print + Eprint), text: &[u8]) -> usize
     ensures { result ≤ length text.now }
 {
     let mut stdout = io::writer(rt);
-    let mut written: usize = 0;
-    let mut last = Err(ErrorKind::Interrupted.into());
+    let mut written = 0;
     for _ in 0..u64::MAX {
         if text.len() <= written {
             return written;
         }
-        last = stdout.write(&text[written..]);
-        match came_to(&last) {
-            Outcome::Moved => {
-                written += last.unwrap_or(0);
-            }
+        match came_to(stdout.write(&text[written..])) {
+            Outcome::Moved(more) => written += more,
             Outcome::Nothing => {
-                break;
+                unwritten(rt, "no byte was taken");
+                return written;
             }
             Outcome::Interrupted => {}
-            Outcome::Failed => {
-                break;
+            Outcome::Failed(e) => {
+                unwritten(rt, e);
+                return written;
             }
         }
     }
-    fail(rt, "standard output cannot be written", last);
+    unwritten(rt, io::Error::from(ErrorKind::Interrupted));
     written
 }

@@ -1,57 +1,34 @@
 // Runs a script of calls on the compiled machine and prints what they answer: document 01's machine examples, and its printed run with each step in a
-// slot of the executor. The gate compares that with the stored output. A line of the script is seven bytes, `X NN V` and a line end: a letter, a process number (or n), a value of one digit.
+// slot of the executor. The gate compares that with the stored output. A line of the script is seven bytes, `X NN V` and a line end: a letter, a process
+// number (or n), a value of one digit.
 #![tactic(auto)]
 
 ghost use Rattle.std.specs.Prelude.{◌<◌};
 
 use rules::{Answer, Called, Machine, Process, Sight, Stage, Standing};
-
-// The system's number of standard output.
-const STDOUT: i32 = 1;
+use std::io;
 
 // One decimal digit; any other byte is 0.
 fn digit(b: u8) -> u32
     ensures { result < 10 }
 {
-    if b < 48 {
-        return 0;
-    }
-    if 57 < b {
-        return 0;
-    }
-    (b - 48) as u32
-}
-
-// The number of document 01's table.
-fn number(a: Answer) -> u64 {
-    match a {
-        Answer::Done => 0,
-        Answer::NotShaped => 1,
-        Answer::NoProcess => 2,
-        Answer::EnteredBefore => 3,
-        Answer::NeverEntered => 4,
-        Answer::HasCrashed => 5,
-        Answer::HasFinished => 6,
-        Answer::NoLevelBelow => 7,
-        Answer::OutOfRange => 8,
-    }
+    char::from(b).to_digit(10).unwrap_or(0)
 }
 
 // P8's state, which no run reaches: both at level 1, both written there, 1 has read register 1 and found it filled.
 fn crowded() -> Called {
-    let mut filled = [0u32; 32];
+    let mut filled = [0; 32];
     filled[0] = 3;
     filled[1] = 3;
-    let mut values = [0u32; 1024];
+    let mut values = [0; 1024];
     values[0] = 7;
     values[1] = 9;
     values[32] = 7;
     values[33] = 9;
-    let nobody = Process {
+    let mut processes = [Process {
         stage: Stage::Absent,
         value: 0,
-    };
-    let mut processes = [nobody; 32];
+    }; 32];
     processes[0] = Process {
         stage: Stage::Running {
             level: 1,
@@ -92,77 +69,54 @@ fn call(m: Machine, letter: u8, p: u32, v: u32) -> Called {
     }
 }
 
-fn print_standing(s: Standing) -> bool {
-    match s {
-        Standing::Absent => io::write_all(STDOUT, b" absent "),
-        Standing::Running => io::write_all(STDOUT, b" running "),
-        Standing::Finished => io::write_all(STDOUT, b" finished "),
-        Standing::Crashed => io::write_all(STDOUT, b" crashed "),
+fn word(standing: Standing) -> &'static str {
+    match standing {
+        Standing::Absent => "absent",
+        Standing::Running => "running",
+        Standing::Finished => "finished",
+        Standing::Crashed => "crashed",
     }
 }
 
-// A pair of a view, after a space; nothing where the view lacks the process.
-fn print_pair(view: u32, i: u32, value: u32) {
-    if sets::has(view, i) {
-        io::write_all(STDOUT, b" ");
-        io::print_decimal(STDOUT, i as u64);
-        io::write_all(STDOUT, b":");
-        io::print_decimal(STDOUT, value as u64);
+// What a look answers, and the pairs of its view.
+fn print_look(rt: &impl Print, s: &Sight) -> io::Result<()> {
+    print!(rt;
+        "{} {} {} {}",
+        s.answer as u32,
+        word(s.standing),
+        s.level,
+        s.accesses
+    )?;
+    for (i, value) in (1..).zip(s.values) {
+        if sets::has(s.view, i) {
+            print!(rt; " {i}:{value}")?;
+        }
     }
-}
-
-fn print_view(s: Sight) {
-    let view = s.view;
-    let values = s.values;
-    for i in 0..32usize {
-        print_pair(view, (i + 1) as u32, values[i]);
-    }
-}
-
-fn print_look(s: Sight) {
-    let answer = s.answer;
-    let standing = s.standing;
-    io::print_decimal(STDOUT, number(answer));
-    print_standing(standing);
-    io::print_decimal(STDOUT, s.level as u64);
-    io::write_all(STDOUT, b" ");
-    io::print_decimal(STDOUT, s.accesses as u64);
-    print_view(s);
-    io::write_all(STDOUT, b"\n");
+    println!(rt;)
 }
 
 // One line of the script, and the machine after it.
-fn obey(m: Machine, line: [u8; 6]) -> Machine {
-    let letter = line[0];
-    let p = 10 * digit(line[2]) + digit(line[3]);
-    io::write_all(STDOUT, &line);
-    io::write_all(STDOUT, b"  ");
+fn obey(rt: &impl Print, m: Machine, line: &[u8; 7]) -> io::Result<Machine> {
+    let [letter, _, tens, ones, _, value, _] = *line;
+    let p = 10 * digit(tens) + digit(ones);
+    rt.write_all(&line[..6])?;
+    print!(rt; "  ")?;
     if letter == b'l' {
-        print_look(sight::look(m, p));
-        return m;
+        print_look(rt, &sight::look(m, p))?;
+        return Ok(m);
     }
-    let c = call(m, letter, p, digit(line[5]));
-    let answer = c.answer;
-    io::print_decimal(STDOUT, number(answer));
-    io::write_all(STDOUT, b"\n");
-    c.machine
+    let c = call(m, letter, p, digit(value));
+    println!(rt; "{}", c.answer as u32)?;
+    Ok(c.machine)
 }
 
-fn main() {
-    let mut script = io::buffer();
-    let got = io::read_full(0, &mut script);
+fn main(rt: HostRuntime) -> io::Result<()> {
+    let mut buffer = [0; 4096];
     let mut m = machine::new(1).machine;
-    let mut at = 0;
-    while at + 7 <= got {
-        let line = [
-            script[at],
-            script[at + 1],
-            script[at + 2],
-            script[at + 3],
-            script[at + 4],
-            script[at + 5],
-        ];
-        m = obey(m, line);
-        at += 7;
+    if let Some(script) = streams::read_input(&rt, &mut buffer) {
+        for line in script.as_chunks().0 {
+            m = obey(&rt, m, line)?;
+        }
     }
+    Ok(())
 }

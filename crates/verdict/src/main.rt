@@ -2,14 +2,11 @@
 // it prints nothing.
 #![tactic(auto)]
 
-use streams::Input;
-
 fn main(rt: HostRuntime) {
-    let mut input = io::large_buffer();
-    let Input::Bytes(got) = streams::read_input(&rt, &mut input) else {
-        return;
-    };
-    let mut text = [0u8; 64];
-    let length = report::verdict_text(&input[..got], &mut text);
-    streams::write_output(&rt, &text[..length]);
+    let mut input = [0; 65536];
+    if let Some(views) = streams::read_input(&rt, &mut input) {
+        let mut text = [0; 64];
+        let length = report::verdict_text(views, &mut text);
+        streams::write_output(&rt, &text[..length]);
+    }
 }
