@@ -5,7 +5,7 @@ use Rattle.checker.proofs.check.Reads as check-reads
 use Rattle.checker.proofs.verdict.Kinds as verdict-kinds
 use Rattle.checker.proofs.verdict.Reads as verdict-reads
 
-pub check_determined : Determined 0 check-kinds.ps check-kinds.r check-reads.Post
+pub check_determined : Determined 1 check-kinds.ps check-kinds.r check-reads.Post
 check_determined κs a x y e e' = one_value
 
 pub verdict_determined : Determined 1 verdict-kinds.ps verdict-kinds.r verdict-reads.Post

@@ -1,4 +1,3 @@
--- Laws of the checker's loops.
-pub mod Every
-pub mod Loops
+-- Laws of the checker's chains of iterators, and that the contracts leave nothing open.
+pub mod Chains
 pub mod Determined

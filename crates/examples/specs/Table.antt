@@ -6,7 +6,8 @@ use Rattle.rules.specs.Examples.{Seen, ◌∶◌, table as machineTable, passes 
 use Rattle.rules.specs.Examples as Runs
 use Rattle.formats.specs.declared.Views.{Views}
 use Rattle.formats.specs.Views.{cell, none_of}
-use Rattle.findings.specs.Findings.{finding_number, check_of}
+use Rattle.findings.specs.Findings.{check_of}
+use Rattle.findings.specs.Verdict.{judged}
 
 -- a view as it is written in document 01: a process and its pairs
 pub data WrittenView : Type 0 where
@@ -39,7 +40,7 @@ pub data Example : Type 0 where
 abbrev pub passes : Example → Bool
 passes (runs r) = runPasses r
 passes (finds n gs k i j) =
-    let f = check_of (with_views (none_of n) gs) in eqb (finding_number f.finding) k && eqb f.i i && eqb f.j j
+    let f = judged 0 (check_of (with_views (none_of n) gs)) in eqb f.number k && eqb f.i i && eqb f.j j
 
 unfoldable pub all_pass : List Example → Bool
 all_pass [] = true

@@ -1,49 +1,17 @@
--- Two views that give no process different values: what the checker tests one process at a time, and containment of the pairs as containment of
--- the sets.
-use Prim.Native.Nat.{ℕ, ◌+◌, ◌-◌, ◌*◌}
+-- Two views that give no process different values: containment of the pairs is containment of the sets.
+use Prim.Native.Nat.{ℕ}
 use mathlib.Core.Bool.{Bool, true, false, not, ◌&&◌, cond}
-use mathlib.Core.Path.{◌≡◌, refl, sym, ap, ◌∙◌}
+use mathlib.Core.Path.{◌≡◌, refl, sym}
 use mathlib.Core.List.{List, ◌++◌}
-use native.Mathlib.Omega.{arith}
+use Rattle.std.specs.Prelude.{Some}
 use lib.Dec.{eqb}
-use lib.ListN.{get_or}
-use lib.Bits.{bit_and}
-use borrow.Author.Tests.{eq-eqb, ne_eqb, eqb-true}
+use borrow.Author.Tests.{eq-eqb, eqb-true}
 use Rattle.sets.specs.Members.{has}
 use Rattle.sets.specs.Sets.{within}
 use Rattle.sets.proofs.Laws.{every_true, true_every, every_ext}
-use Rattle.sets.proofs.Bits.{has_and}
-use Rattle.formats.specs.Views.{cell}
 use Rattle.findings.specs.declared.Finding.{Finding}
 use Rattle.findings.specs.declared.Finding.TheVariants.{Apart, Unlike, Disagree}
-use Rattle.findings.specs.Findings.{only, View, view, same_at, agree, inside_at, inside, facing, breaks, first_break}
-
--- the place of a view's value for process k + 1
-cell-plus : (i k : ℕ) → cell i (k + 1) ≡ 32 * (i - 1) + k
-cell-plus i k = omega arith
-
-module _ (w x : ℕ) (values : List ℕ) (i j k : ℕ) where
-  here : ℕ → ℕ
-  here i = get_or values (32 * (i - 1) + k) 0
-
-  at : same_at (view w values i) (view x values j) (k + 1) ≡ cond (has (bit_and w x) (k + 1)) (eqb (here i) (here j)) true
-  unfolding here
-  at = rw (cell-plus i k, cell-plus j k, has_and w x (k + 1))
-
-  -- process k + 1 is not in both, or has the same value in both, or another
-  pub not_both : has (bit_and w x) (k + 1) ≡ false → same_at (view w values i) (view x values j) (k + 1) ≡ true
-  not_both e = at ∙ ap (λ (b : Bool). cond b (eqb (here i) (here j)) true) e
-
-  pub same_value : get_or values (32 * (i - 1) + k) 0 ≡ get_or values (32 * (j - 1) + k) 0 → same_at (view w values i) (view x values j) (k + 1) ≡ true
-  unfolding here
-  same_value e =
-      let go : (b : Bool) → cond b (eqb (here i) (here j)) true ≡ true = elim [ true ↦ eq-eqb (here i) (here j) e | false ↦ refl ] in
-      at ∙ go (has (bit_and w x) (k + 1))
-
-  pub other_value : has (bit_and w x) (k + 1) ≡ true → (get_or values (32 * (i - 1) + k) 0 ≡ get_or values (32 * (j - 1) + k) 0 → ⊥)
-      → same_at (view w values i) (view x values j) (k + 1) ≡ false
-  unfolding here
-  other_value e h = at ∙ ap (λ (b : Bool). cond b (eqb (here i) (here j)) true) e ∙ ne_eqb (here i) (here j) h
+use Rattle.findings.specs.Findings.{only, View, same_at, agree, inside_at, inside, facing, breaks, first_finding}
 
 -- the tests of one process, by whether each view names it
 as_set : (a b e : Bool) → cond (a && b) e true ≡ true → cond a (b && e) true ≡ cond a b true
@@ -81,9 +49,6 @@ pub breaks_agreeing : (x y : View) (i j : ℕ) → agree x y ≡ true
 unfolding breaks
 breaks_agreeing x y i j e = rw (e, inside-within x y e, inside-within y x (agree_swapped x y e))
 
-pub breaks_disagreeing : (x y : View) (i j : ℕ) → agree x y ≡ false → first_break (breaks x y i j) ≡ Disagree
+pub breaks_disagreeing : (x y : View) (i j : ℕ) → agree x y ≡ false → first_finding (breaks x y i j) ≡ Some Disagree
 unfolding breaks
 breaks_disagreeing x y i j e = rw e
-
-pub nestings_of : {a b c a' b' c' : Bool} → a ≡ a' → b ≡ b' → c ≡ c' → first_break (nestings a b c) ≡ first_break (nestings a' b' c')
-nestings_of p q r = λ i. first_break (nestings (p i) (q i) (r i))

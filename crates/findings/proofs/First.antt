@@ -1,85 +1,53 @@
 -- The first of a list of findings, over lists that are put together from parts.
-use Prim.Native.Nat.{ℕ, zero, suc, ◌-◌}
-use mathlib.Core.Bool.{Bool, true, false, ◌&&◌, cond, true≢false, false≢true}
+use Prim.Native.Nat.{ℕ, zero, suc, ◌+◌, ◌≤◌, ◌<◌}
 use mathlib.Core.Path.{◌≡◌, refl, sym, ap, ◌∙◌}
+use mathlib.Core.Logic.{◌⊎◌, inl, inr, ⊎_elim}
 use mathlib.Core.List.{List, [], ◌∷◌, ◌++◌, map}
-use Rattle.formats.specs.declared.Views.{Views}
-use Rattle.formats.specs.Views.{owns}
+use native.Mathlib.Nat.{eq-or-lt_of_le}
+use native.Mathlib.Omega.{arith}
+use Rattle.std.specs.Prelude.{Option, Some, None, option_map, MatchOption}
+use Rattle.std.proofs.lemmas.Option.{none-some}
 use Rattle.text.specs.Parts.{joined}
-use Rattle.findings.specs.declared.Finding.{Finding}
-use Rattle.findings.specs.declared.Finding.TheVariants.{LacksItself, Apart, Unlike, Disagree}
-use Rattle.findings.specs.declared.Found.{Found}
-use Rattle.findings.specs.Findings.{is_finding, found, only, View, view_in, lacks, breaks, disagree, apart, unlike}
-use Rattle.findings.specs.Findings.{of_one, of_pair, of_pairs, first_break, first_finding}
-
--- every part of a list is a finding
-abbrev pub Real : List Found → Type 0
-Real [] = Unit {0}
-Real (f ∷ fs) = (is_finding f.finding ≡ true) × Real fs
-
-pub real_append : (l m : List Found) → Real l → Real m → Real (l ++ m)
-real_append [] m a b = b
-real_append (f ∷ fs) m a b = (a.0, real_append fs m a.1 b)
-
-pub real_joined : (a k : ℕ) (f : ℕ → List Found) → ((i : ℕ) → Real (f i)) → Real (joined a k f)
-unfolding joined
-real_joined a zero f h = tt
-real_joined a (suc k) f h = real_append (f a) (joined (suc a) k f) (h a) (real_joined (suc a) k f h)
-
-real_one : (b : Bool) (i : ℕ) → Real (map (λ k. found k i 0) (only b LacksItself))
-real_one true i = (refl, tt)
-real_one false i = tt
-
-pub real_of_one : (v : Views) (i : ℕ) → Real (of_one v i)
-unfolding of_one
-real_of_one v i = real_one (owns v i && lacks (view_in v i) i) i
-
-real_pair : (o a b c : Bool) (i j : ℕ) → Real (cond o (map (λ k. found k i j) (only a Disagree ++ only b Apart ++ only c Unlike)) [])
-real_pair false a b c i j = tt
-real_pair true true true true i j = (refl, (refl, (refl, tt)))
-real_pair true true true false i j = (refl, (refl, tt))
-real_pair true true false true i j = (refl, (refl, tt))
-real_pair true true false false i j = (refl, tt)
-real_pair true false true true i j = (refl, (refl, tt))
-real_pair true false true false i j = (refl, tt)
-real_pair true false false true i j = (refl, tt)
-real_pair true false false false i j = tt
-
-pub real_of_pair : (v : Views) (i j : ℕ) → Real (of_pair v i j)
-unfolding of_pair breaks
-real_of_pair v i j =
-    let x = view_in v i in
-    let y = view_in v j in
-    real_pair (owns v i && owns v j) (disagree x y) (apart x y) (unlike x y i j) i j
-
-pub real_of_pairs : (v : Views) (i : ℕ) → Real (of_pairs v i)
-real_of_pairs v i = real_joined (suc i) (32 - i) (of_pair v i) (real_of_pair v i)
+use Rattle.findings.specs.Findings.{first_finding}
+use Rattle.findings.proofs.Accepts.{joined_empty}
 
 -- where the first part has a finding it is the first of all, and where it has none the rest decides
-pub first-here : (l m : List Found) → is_finding (first_finding l).finding ≡ true → first_finding (l ++ m) ≡ first_finding l
-first-here [] m e = absurd (false≢true e)
-first-here (f ∷ fs) m e = refl
+pub first_here : {A : Type 0} (l m : List A) (x : A) → first_finding l ≡ Some x → first_finding (l ++ m) ≡ Some x
+first_here [] m x e = absurd (none-some x e)
+first_here (y ∷ l) m x e = e
 
-pub none_first : (l : List Found) → Real l → is_finding (first_finding l).finding ≡ false → l ≡ []
-none_first [] r e = refl
-none_first (f ∷ fs) r e = absurd (true≢false (sym r.0 ∙ e))
+pub none_first : {A : Type 0} (l : List A) → first_finding l ≡ None → l ≡ []
+none_first [] e = refl
+none_first (y ∷ l) e = cc
 
-pub first_later : (l m : List Found) → Real l → is_finding (first_finding l).finding ≡ false → first_finding (l ++ m) ≡ first_finding m
-first_later l m r e = ap (λ k. first_finding (k ++ m)) (none_first l r e)
+pub first_later : {A : Type 0} (l m : List A) → first_finding l ≡ None → first_finding (l ++ m) ≡ first_finding m
+first_later l m e = ap (λ k. first_finding (k ++ m)) (none_first l e)
 
--- the same of a pair's findings
-pub break_here : (i j : ℕ) (ks : List Finding) (m : List Found) → is_finding (first_break ks) ≡ true
-    → first_finding (map (λ k. found k i j) ks ++ m) ≡ found (first_break ks) i j
-break_here i j [] m e = absurd (false≢true e)
-break_here i j (k ∷ ks) m e = refl
+pub ruleset firsts = (first_here, first_later)
 
-no_break : (a b c : Bool) → is_finding (first_break (only a Disagree ++ only b Apart ++ only c Unlike)) ≡ false
-    → only a Disagree ++ only b Apart ++ only c Unlike ≡ []
-no_break true b c e = absurd (true≢false e)
-no_break false true c e = absurd (true≢false e)
-no_break false false true e = absurd (true≢false e)
-no_break false false false e = refl
+pub first_or_none : {A : Type 0} (l : List A) → ((x : A) × (first_finding l ≡ Some x)) ⊎ (first_finding l ≡ None)
+first_or_none [] = inr refl
+first_or_none (x ∷ l) = inl (x, refl)
 
-pub no_breaks : (x y : View) (i j : ℕ) → is_finding (first_break (breaks x y i j)) ≡ false → breaks x y i j ≡ []
-unfolding breaks
-no_breaks x y i j e = no_break (disagree x y) (apart x y) (unlike x y i j) e
+pub first_map : {A B : Type 0} (f : A → B) (l : List A) → first_finding (map f l) ≡ option_map f (first_finding l)
+first_map f [] = refl
+first_map f (x ∷ l) = refl
+
+-- The same of parts joined one after another: the first part that has a finding, or none.
+pub at_found : {A : Type 0} (a k : ℕ) (f : ℕ → List A) (i : ℕ) (g : A) → a ≤ i → i < a + k → first_finding (f i) ≡ Some g
+    → ((h : ℕ) → a ≤ h → h < i → f h ≡ []) → first_finding (joined a k f) ≡ Some g
+unfolding joined
+at_found a zero f i g l h t b = absurd (omega arith)
+at_found a (suc k) f i g l h t b =
+    ⊎_elim
+    (λ z. first_here (f a) (joined (suc a) k f) g (ap (λ (x : ℕ). first_finding (f x)) z ∙ t))
+    (λ z. ap (λ m. first_finding (m ++ joined (suc a) k f)) (b a (omega arith) z)
+    ∙ at_found (suc a) k f i g z (omega arith) t (λ x p q. b x (omega arith) q))
+    (eq-or-lt_of_le l)
+
+pub first_joined : {A : Type 0} (a k : ℕ) (f : ℕ → List A) (r : Option A)
+    → MatchOption r ((i : ℕ) → a ≤ i → i < a + k → first_finding (f i) ≡ None)
+    (λ x. (i : ℕ) × (a ≤ i) × (i < a + k) × (first_finding (f i) ≡ Some x) × ((h : ℕ) → a ≤ h → h < i → first_finding (f h) ≡ None))
+    → r ≡ first_finding (joined a k f)
+first_joined a k f None n = sym (ap first_finding (joined_empty a k f (λ i l h. none_first (f i) (n i l h))))
+first_joined a k f (Some x) s = sym (at_found a k f s.0 x s.1 s.2 s.3 (λ h l m. none_first (f h) (s.4 h l m)))

@@ -4,6 +4,7 @@ use mathlib.Core.Bool.{Bool, true, false, not, ◌&&◌, cond, true≢false, fal
 use mathlib.Core.Path.{◌≡◌, refl, sym, ap, ◌∙◌, subst}
 use mathlib.Core.Logic.{◌↔◌, ◌≢◌, ⊎_elim}
 use mathlib.Core.List.{[], ◌++◌}
+use Rattle.std.specs.Prelude.{Option, Some, None}
 use lib.Dec.{eqb}
 use borrow.Author.Tests.{eqb-false}
 use Rattle.sets.specs.Members.{has}
@@ -13,11 +14,11 @@ use Rattle.sets.proofs.Laws.{either}
 use Rattle.formats.specs.declared.Views.{Views}
 use Rattle.formats.specs.Views.{seen_by, value_by}
 use Rattle.findings.specs.declared.Finding.{Finding}
-use Rattle.findings.specs.declared.Finding.TheVariants.{Nothing, LacksItself, Apart, Unlike, Disagree}
-use Rattle.findings.specs.Findings.{is_finding, only, View, view_in, same_at, agree, inside, disagree, apart, unlike, breaks, first_break}
+use Rattle.findings.specs.declared.Finding.TheVariants.{LacksItself, Apart, Unlike, Disagree}
+use Rattle.findings.specs.Findings.{only, View, view_in, same_at, agree, inside, disagree, apart, unlike, breaks, first_finding}
 use Rattle.findings.specs.Properties.{Pair, Sees, TwoValues, NeitherInside, SeeAndDiffer, PairGives}
 use Rattle.findings.specs.Statements.{TestsOfPairs, DisagreeIsApart}
-use Rattle.findings.proofs.First.{no_breaks}
+use Rattle.findings.proofs.First.{none_first}
 use Rattle.findings.proofs.Accepts.{is_inside, inside_is, same_value}
 
 -- Facts and the tests that say them.
@@ -108,10 +109,10 @@ disagree_is_apart v i j t = (
 )
 
 -- The first number of a pair.
-abbrev number : Bool → Bool → Bool → Finding
-number a b c = cond a Disagree (cond b Apart (cond c Unlike Nothing))
+abbrev number : Bool → Bool → Bool → Option Finding
+number a b c = cond a (Some Disagree) (cond b (Some Apart) (cond c (Some Unlike) None))
 
-numbered : (a b c : Bool) → first_break (only a Disagree ++ only b Apart ++ only c Unlike) ≡ number a b c
+numbered : (a b c : Bool) → first_finding (only a Disagree ++ only b Apart ++ only c Unlike) ≡ number a b c
 numbered true b c = refl
 numbered false true c = refl
 numbered false false true = refl
@@ -124,7 +125,7 @@ module _ (v : Views) (i j : ℕ) where
   abbrev y : View
   y = view_in v j
 
-  first-number : first_break (breaks x y i j) ≡ number (disagree x y) (apart x y) (unlike x y i j)
+  first-number : first_finding (breaks x y i j) ≡ number (disagree x y) (apart x y) (unlike x y i j)
   unfolding breaks
   first-number = numbered (disagree x y) (apart x y) (unlike x y i j)
 
@@ -134,18 +135,18 @@ module _ (v : Views) (i j : ℕ) where
   tests_give false false true p q r = (failed _ (is_23 v i j) p, failed _ (is_21 v i j) q, (is_22 v i j).0 r)
   tests_give false false false p q r = (failed _ (is_23 v i j) p, failed _ (is_21 v i j) q, failed _ (is_22 v i j) r)
 
-  number_is : (k : Finding) → PairGives v i j k → number (disagree x y) (apart x y) (unlike x y i j) ≡ k
-  number_is Disagree t = rw ((is_23 v i j).1 t)
-  number_is Apart t = rw (fails _ (is_23 v i j) t.0, (is_21 v i j).1 t.1)
-  number_is Unlike t = rw (fails _ (is_23 v i j) t.0, fails _ (is_21 v i j) t.1, (is_22 v i j).1 t.2)
-  number_is Nothing t = rw (fails _ (is_23 v i j) t.0, fails _ (is_21 v i j) t.1, fails _ (is_22 v i j) t.2)
-  number_is LacksItself t = absurd t
+  number_is : (k : Option Finding) → PairGives v i j k → number (disagree x y) (apart x y) (unlike x y i j) ≡ k
+  number_is (Some Disagree) t = rw ((is_23 v i j).1 t)
+  number_is (Some Apart) t = rw (fails _ (is_23 v i j) t.0, (is_21 v i j).1 t.1)
+  number_is (Some Unlike) t = rw (fails _ (is_23 v i j) t.0, fails _ (is_21 v i j) t.1, (is_22 v i j).1 t.2)
+  number_is None t = rw (fails _ (is_23 v i j) t.0, fails _ (is_21 v i j) t.1, fails _ (is_22 v i j) t.2)
+  number_is (Some LacksItself) t = absurd t
 
-  pub pair_gives : (k : Finding) → (first_break (breaks x y i j) ≡ k) ↔ PairGives v i j k
+  pub pair_gives : (k : Option Finding) → (first_finding (breaks x y i j) ≡ k) ↔ PairGives v i j k
   pair_gives k = (
     λ e. subst (PairGives v i j) (sym first-number ∙ e) (tests_give (disagree x y) (apart x y) (unlike x y i j) refl refl refl),
     λ t. first-number ∙ number_is k t,
   )
 
-  pub none-given : (breaks x y i j ≡ []) ↔ PairGives v i j Nothing
-  none-given = (λ e. (pair_gives Nothing).0 (ap first_break e), λ t. no_breaks x y i j (ap is_finding ((pair_gives Nothing).1 t)))
+  pub none-given : (breaks x y i j ≡ []) ↔ PairGives v i j None
+  none-given = (λ e. (pair_gives None).0 (ap first_finding e), λ t. none_first (breaks x y i j) ((pair_gives None).1 t))

@@ -1,5 +1,5 @@
 -- Files with views: document 01's P9 and P10, each number 20 to 23, the order of the findings, and a file's own numbers first.
-use Rattle.std.specs.Prelude.{ℕ, suc, Bool, true, ◌&&◌, ◌≡◌, List, [], ◌∷◌, ◌++◌, map, eqb, length, take}
+use Rattle.std.specs.Prelude.{ℕ, suc, Bool, true, ◌&&◌, ◌≡◌, List, [], ◌∷◌, ◌++◌, map, eqb, length, take, Some, None}
 use Rattle.formats.specs.declared.Views.{Views}
 use Rattle.formats.specs.Records.{word_bytes}
 use Rattle.text.specs.Ascii.{ascii}
@@ -7,7 +7,7 @@ use Rattle.text.specs.Parts.{joined}
 use Rattle.formats.specs.ViewFile.{read_of}
 use Rattle.formats.specs.Examples.{MN, VW, header_cuts, record_cuts}
 use Rattle.findings.specs.declared.FileVerdict.{FileVerdict}
-use Rattle.findings.specs.declared.Finding.TheVariants.{Nothing, Apart, Unlike, Disagree}
+use Rattle.findings.specs.declared.Finding.TheVariants.{Apart, Unlike, Disagree}
 use Rattle.findings.specs.declared.Found.{Found}
 use Rattle.findings.specs.Findings.{found, of_pair, of_ones, findings, check_of}
 use Rattle.findings.specs.Verdict.{judged, unread, verdict_of}
@@ -83,7 +83,8 @@ examples =
 abbrev pub P9Cuts : Type 0
 P9Cuts =
     joined 0 57 (λ k. verdict_of (take k p9) ∷ [])
-    ≡ map (λ c. unread c.number c.place) (header_cuts ++ record_cuts 3 15 ++ record_cuts 18 23 ++ record_cuts 41 15) ++ judged 56 (found Apart 1 3) ∷ []
+    ≡ map (λ c. unread c.number c.place) (header_cuts ++ record_cuts 3 15 ++ record_cuts 18 23 ++ record_cuts 41 15)
+    ++ judged 56 (Some (found Apart 1 3)) ∷ []
 
 abbrev agrees : FileVerdict → Example → Bool
 agrees r e = eqb r.number e.number && eqb r.place e.place && eqb r.i e.i && eqb r.j e.j
@@ -107,7 +108,7 @@ abbrev alone : ℕ → Views
 alone own = record { n = 2; own = own; seen = unequal.seen; values = unequal.values }
 
 abbrev pub NotCompared : Type 0
-NotCompared = (check_of (alone 1) ≡ found Nothing 0 0) × (check_of (alone 2) ≡ found Nothing 0 0)
+NotCompared = (check_of (alone 1) ≡ None) × (check_of (alone 2) ≡ None)
 
 -- Document 01's error "Comparing a view only with the next process's view: P9 passes": of the pairs (i, i + 1) alone nothing is found.
 abbrev next_only : Views → List Found

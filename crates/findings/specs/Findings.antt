@@ -1,30 +1,21 @@
 -- The checker: document 01, "Order of the checker's findings". "A view is a set of (process, value) pairs, so 23 is a break of containment with
 -- a number of its own."
-use Rattle.std.specs.Prelude.{ℕ, suc, ◌-◌, Bool, true, false, not, ◌&&◌, cond, List, [], ◌∷◌, ◌++◌, map, eqb, get_or}
+use Rattle.std.specs.Prelude.{ℕ, suc, ◌-◌, Bool, true, false, not, ◌&&◌, cond, List, [], ◌∷◌, ◌++◌, map, eqb, get_or, Option, slice_get}
 use Rattle.sets.specs.Members.{has}
 use Rattle.sets.specs.Sets.{every}
 use Rattle.formats.specs.declared.Views.{Views}
 use Rattle.formats.specs.Views.{owns, seen_by, cell}
 use Rattle.text.specs.Parts.{joined}
 use Rattle.findings.specs.declared.Finding.{Finding}
-use Rattle.findings.specs.declared.Finding.TheVariants.{Nothing, LacksItself, Apart, Unlike, Disagree}
+use Rattle.findings.specs.declared.Finding.TheVariants.{LacksItself, Apart, Unlike, Disagree}
 use Rattle.findings.specs.declared.Found.{Found}
 
 -- document 01's number for a finding
 abbrev pub finding_number : Finding → ℕ
-finding_number Nothing = 0
 finding_number LacksItself = 20
 finding_number Apart = 21
 finding_number Unlike = 22
 finding_number Disagree = 23
-
--- there is a finding
-abbrev pub is_finding : Finding → Bool
-is_finding Nothing = false
-is_finding LacksItself = true
-is_finding Apart = true
-is_finding Unlike = true
-is_finding Disagree = true
 
 abbrev pub found : Finding → ℕ → ℕ → Found
 found k i j = record { finding = k; i = i; j = j }
@@ -103,14 +94,9 @@ of_pairs v i = joined (suc i) (32 - i) (of_pair v i)
 unfoldable pub findings : Views → List Found
 findings v = of_ones v ++ joined 1 32 (of_pairs v)
 
--- the first of a pair's findings, and the checker's answer: the first of all
-abbrev pub first_break : List Finding → Finding
-first_break [] = Nothing
-first_break (k ∷ ks) = k
+-- the first of a list of findings, if there is one: of a pair's, and, which is the checker's answer, of all
+abbrev pub first_finding : {A : Type 0} → List A → Option A
+first_finding l = slice_get l 0
 
-abbrev pub first_finding : List Found → Found
-first_finding [] = found Nothing 0 0
-first_finding (f ∷ fs) = f
-
-unfoldable pub check_of : Views → Found
+unfoldable pub check_of : Views → Option Found
 check_of v = first_finding (findings v)

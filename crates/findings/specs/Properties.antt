@@ -1,11 +1,11 @@
 -- The three properties of section 2.3 of document 002, of the views of a file as sets of (process, value) pairs, and what the checker promises.
-use Rattle.std.specs.Prelude.{ℕ, ◌<◌, true, ◌≡◌, ◌↔◌, ◌⊎◌, ◌≢◌, []}
+use Rattle.std.specs.Prelude.{ℕ, ◌<◌, true, ◌≡◌, ◌↔◌, ◌⊎◌, ◌≢◌, [], Option, Some, None}
 use Rattle.sets.specs.Members.{has}
 use Rattle.sets.specs.Immediate.{Inside, Immediate}
 use Rattle.formats.specs.declared.Views.{Views}
 use Rattle.formats.specs.Views.{owns, seen_by, value_by}
 use Rattle.findings.specs.declared.Finding.{Finding}
-use Rattle.findings.specs.declared.Finding.TheVariants.{Nothing, LacksItself, Apart, Unlike, Disagree}
+use Rattle.findings.specs.declared.Finding.TheVariants.{LacksItself, Apart, Unlike, Disagree}
 use Rattle.findings.specs.Findings.{found, findings, check_of}
 
 -- process i has a view
@@ -35,7 +35,7 @@ AcceptsExactly = (v : Views) → (findings v ≡ []) ↔ Obeys v
 
 -- a yes is the answer with no finding
 abbrev pub YesIsNoFinding : Type 0
-YesIsNoFinding = (v : Views) → (check_of v ≡ found Nothing 0 0) ↔ (findings v ≡ [])
+YesIsNoFinding = (v : Views) → (check_of v ≡ None) ↔ (findings v ≡ [])
 
 -- Document 01's table, of views as sets of pairs. 20, "a view lacks its own process", is ¬ Sees v i i.
 -- 23: "two views give one process different values"
@@ -64,12 +64,12 @@ pub record FirstAlone (v : Views) (i : ℕ) : Type 0 where
   pub before : (h : ℕ) → h < i → Has v h → Sees v h h
 
 -- "tested for 23, 21, 22": the first that holds of the views of i and j, or nothing where none does
-abbrev pub PairGives : Views → ℕ → ℕ → Finding → Type 0
-PairGives v i j Disagree = TwoValues v i j
-PairGives v i j Apart = (¬ TwoValues v i j) × NeitherInside v i j
-PairGives v i j Unlike = (¬ TwoValues v i j) × (¬ NeitherInside v i j) × SeeAndDiffer v i j
-PairGives v i j Nothing = (¬ TwoValues v i j) × (¬ NeitherInside v i j) × (¬ SeeAndDiffer v i j)
-PairGives v i j LacksItself = ⊥
+abbrev pub PairGives : Views → ℕ → ℕ → Option Finding → Type 0
+PairGives v i j (Some Disagree) = TwoValues v i j
+PairGives v i j (Some Apart) = (¬ TwoValues v i j) × NeitherInside v i j
+PairGives v i j (Some Unlike) = (¬ TwoValues v i j) × (¬ NeitherInside v i j) × SeeAndDiffer v i j
+PairGives v i j None = (¬ TwoValues v i j) × (¬ NeitherInside v i j) × (¬ SeeAndDiffer v i j)
+PairGives v i j (Some LacksItself) = ⊥
 
 -- the pair (g, h) stands before (i, j)
 abbrev pub Before : ℕ → ℕ → ℕ → ℕ → Type 0
@@ -81,10 +81,9 @@ pub record FirstPair (v : Views) (k : Finding) (i j : ℕ) : Type 0 where
   pub owner : Has v i
   pub other : Has v j
   pub order : i < j
-  pub number : PairGives v i j k
-  pub finding : k ≢ Nothing
-  pub before : (g h : ℕ) → Before g h i j → g < h → Has v g → Has v h → PairGives v g h Nothing
+  pub number : PairGives v i j (Some k)
+  pub before : (g h : ℕ) → Before g h i j → g < h → Has v g → Has v h → PairGives v g h None
 
 abbrev pub NamesTheFirst : Type 0
-NamesTheFirst = (v : Views) (k : Finding) (i j : ℕ) → k ≢ Nothing
-    → (check_of v ≡ found k i j) ↔ (((k ≡ LacksItself) × (j ≡ 0) × FirstAlone v i) ⊎ FirstPair v k i j)
+NamesTheFirst = (v : Views) (k : Finding) (i j : ℕ)
+    → (check_of v ≡ Some (found k i j)) ↔ (((k ≡ LacksItself) × (j ≡ 0) × FirstAlone v i) ⊎ FirstPair v k i j)

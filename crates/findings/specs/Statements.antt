@@ -1,20 +1,20 @@
 -- What else is promised of the checker, and of the verdict of a file.
-use Rattle.std.specs.Prelude.{ℕ, ◌<◌, true, false, ◌≡◌, ◌⊎◌, ◌↔◌, ◌≢◌, List, length}
+use Rattle.std.specs.Prelude.{ℕ, ◌<◌, true, false, ◌≡◌, ◌⊎◌, ◌↔◌, ◌≢◌, List, length, Some, None, option_map}
 use Rattle.formats.specs.declared.Views.{Views}
 use Rattle.formats.specs.Numbers.{file_number, is_whole}
 use Rattle.formats.specs.Views.{none_of}
 use Rattle.formats.specs.Cuts.{EndsInMark, EndsInBody}
 use Rattle.formats.specs.ViewFile.{read_of}
 use Rattle.findings.specs.declared.Finding.{Finding}
-use Rattle.findings.specs.declared.Finding.TheVariants.{Nothing}
-use Rattle.findings.specs.Findings.{finding_number, found, view_in, lacks, disagree, apart, unlike, check_of}
+use Rattle.findings.specs.declared.Found.{Found}
+use Rattle.findings.specs.Findings.{finding_number, view_in, lacks, disagree, apart, unlike, check_of}
 use Rattle.findings.specs.Verdict.{judged, unread, verdict_of}
 use Rattle.findings.specs.Properties.{Has, Sees, Obeys, TwoValues, NeitherInside, SeeAndDiffer}
 
 -- "No views at all is accepted": where no process has a view, and so of a file that has none.
 pub record NoViewsAccepted : Type 0 where
-  pub nobody : (v : Views) → ((i : ℕ) → ¬ Has v i) → check_of v ≡ found Nothing 0 0
-  pub none : (n : ℕ) → check_of (none_of n) ≡ found Nothing 0 0
+  pub nobody : (v : Views) → ((i : ℕ) → ¬ Has v i) → check_of v ≡ None
+  pub none : (n : ℕ) → check_of (none_of n) ≡ None
 
 -- the tests of specs/Findings.antt are these
 pub record TestsOfPairs : Type 0 where
@@ -36,8 +36,9 @@ ReadThenChecked = (s : List ℕ) → is_whole (read_of s).answer ≡ true → ve
 
 -- Each number exactly: one of 20 to 23 where the file is read and the checker finds it, and another where the reader gives it.
 pub record VerdictNumbers (s : List ℕ) : Type 0 where
-  pub finding : (k : Finding) → k ≢ Nothing
-      → ((verdict_of s).number ≡ finding_number k) ↔ ((is_whole (read_of s).answer ≡ true) × ((check_of (read_of s).views).finding ≡ k))
+  pub finding : (k : Finding)
+      → ((verdict_of s).number ≡ finding_number k)
+      ↔ ((is_whole (read_of s).answer ≡ true) × (option_map (λ (f : Found). f.finding) (check_of (read_of s).views) ≡ Some k))
   pub refusal : (x : ℕ) → x ≢ 0 → (x < 20) ⊎ (23 < x) → ((verdict_of s).number ≡ x) ↔ (file_number (read_of s).answer ≡ x)
 
 abbrev pub EveryVerdictNumbered : Type 0

@@ -1,17 +1,16 @@
 // What the checker of views answers. The findings themselves, in document 01's order, are the definitions in specs/.
 #![tactic(auto)]
 
-// What the checker finds; `finding_number` of specs/Findings gives document 01's number for each.
-#[derive(Clone, Copy)]
+// What the checker finds, each with document 01's number, which `finding_number` of specs/Findings gives.
+#[derive(Clone, Copy, PartialEq, Eq)]
 pub enum Finding {
-    Nothing,
-    LacksItself,
-    Apart,
-    Unlike,
-    Disagree,
+    LacksItself = 20,
+    Apart = 21,
+    Unlike = 22,
+    Disagree = 23,
 }
 
-// A finding and the processes that it names, 0 where it names none.
+// A finding and the processes that it names: 20 names one, and j is 0.
 #[derive(Clone, Copy)]
 pub struct Found {
     pub finding: Finding,

@@ -7,6 +7,7 @@ use mathlib.Core.List.{List, [], ◌∷◌}
 use native.Mathlib.Omega.{arith}
 use lib.Dec.{eqb}
 use lib.ListN.{length}
+use Rattle.std.specs.Prelude.{None}
 use Rattle.sets.specs.Members.{has}
 use Rattle.sets.specs.Immediate.{Immediate, Inside}
 use Rattle.sets.proofs.Laws.{has-known}
@@ -26,8 +27,7 @@ use Rattle.formats.specs.Records.{header_of}
 use Rattle.formats.specs.Views.{seen_by}
 use Rattle.formats.specs.ViewFile.{read_of, read_whole}
 use Rattle.formats.specs.Promises.{Bytes}
-use Rattle.findings.specs.declared.Finding.{Finding}
-use Rattle.findings.specs.Findings.{found, check_of}
+use Rattle.findings.specs.Findings.{check_of}
 use Rattle.findings.specs.Verdict.{judged}
 use Rattle.findings.specs.Properties as properties
 use Rattle.findings.proofs.Accepts.{accepts_exactly}
@@ -103,7 +103,7 @@ module _ (m : Machine) (S : Shaped m) where
               (inside i j hi hj s.0, inside j i hj hi s.1);
         }
 
-    pub yes : check_of (views_of m) ≡ found Finding.Nothing 0 0
+    pub yes : check_of (views_of m) ≡ None
     yes = (yes_is_no_finding (views_of m)).1 ((accepts_exactly (views_of m)).1 obeys)
 
 -- The values that an order file gives are 32-bit numbers.
@@ -133,7 +133,7 @@ file_words s b budget i low high =
 -- the properties of a run are those of its file
 accepts : (n : ℕ) (cs : List Call) (m : Machine) → DemandThree n cs m → Words m → Accepted m
 accepts n cs m d w =
-    let ok : check_of (views_of m) ≡ found Finding.Nothing 0 0 = yes m d.shape.shape (given n cs) d.properties in
+    let ok : check_of (views_of m) ≡ None = yes m d.shape.shape (given n cs) d.properties in
     let back : read_of (bytes_of m) ≡ read_whole (bytes_of m) (views_of m) = written_reads_back m d.shape.held w (record_shaped m d.shape.shape) in
     record {
       checked = ok;

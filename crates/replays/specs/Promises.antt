@@ -1,6 +1,6 @@
 -- What is promised of every order file, every budget and every view file that is written. `proofs/` proves each, under the same name in small
 -- letters, with hyphens.
-use Rattle.std.specs.Prelude.{ℕ, ◌+◌, ◌-◌, ◌*◌, ◌≤◌, ◌<◌, true, ◌≡◌, ◌↔◌, ◌≢◌, length, get_or, take, drop}
+use Rattle.std.specs.Prelude.{ℕ, ◌+◌, ◌-◌, ◌*◌, ◌≤◌, ◌<◌, true, ◌≡◌, ◌↔◌, ◌≢◌, length, get_or, take, drop, None}
 use mathlib.Core.List.{List, ◌++◌, Memᴰ}
 use Rattle.sets.specs.Members.{count, size}
 use Rattle.sets.specs.Immediate.{Immediate}
@@ -23,8 +23,7 @@ use Rattle.formats.specs.Table.{header_lines, place_given}
 use Rattle.formats.specs.Views.{owns, seen_by, value_by}
 use Rattle.formats.specs.ViewFile.{read_of, read_whole}
 use Rattle.formats.specs.Promises.{Bytes, File}
-use Rattle.findings.specs.declared.Finding.{Finding}
-use Rattle.findings.specs.Findings.{found, check_of}
+use Rattle.findings.specs.Findings.{check_of}
 use Rattle.findings.specs.Verdict.{judged, verdict_of}
 use Rattle.replays.specs.declared.Replayed.{Replayed}
 use Rattle.replays.specs.Replays.{replayed, replay_of, calls_of, processes_of}
@@ -161,8 +160,8 @@ WritesBytes = (m : Machine) → Held m → Words m → shaped m ≡ true → Byt
 
 -- The checker accepts what is written of a state that a run leaves, and so does the verdict of the written file.
 pub record Accepted (m : Machine) : Type 0 where
-  pub checked : check_of (views_of m) ≡ found Finding.Nothing 0 0
-  pub verdict : verdict_of (bytes_of m) ≡ judged (length (bytes_of m)) (found Finding.Nothing 0 0)
+  pub checked : check_of (views_of m) ≡ None
+  pub verdict : verdict_of (bytes_of m) ≡ judged (length (bytes_of m)) None
 
 abbrev pub EveryRunAccepted : Type 0
 EveryRunAccepted = OfEveryRun λ n cs. Words (runs n cs) → Accepted (runs n cs)
