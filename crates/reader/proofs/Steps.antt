@@ -22,27 +22,27 @@ pub record Stored (s : List ℕ) (from : ℕ) (r : ViewRecord) (were : List ℕ)
   pub past : place ≡ from + 4 * count (has r.set) j
   pub stored : values ≡ values_read s from r.process r.set j were
 
-module _ (s : List ℕ) (from : ℕ) (r : ViewRecord) (were : List ℕ) where
-  pub stored_none : Stored s from r were 0 from were
-  unfolding count values_read
-  stored_none = record { past = omega arith; stored = refl }
+pub stored_none : (s : List ℕ) (from : ℕ) (r : ViewRecord) (were : List ℕ) → Stored s from r were 0 from were
+unfolding count values_read
+stored_none s from r were = record { past = omega arith; stored = refl }
 
-  module _ (j place : ℕ) (values : List ℕ) (t : Stored s from r were j place values) (place' : ℕ) (values' : List ℕ) where
-    pub stored_member : has r.set (j + 1) ≡ true → place' ≡ place + 4 → values' ≡ set values (32 * (r.process - 1) + j) (word_at s place)
-        → Stored s from r were (j + 1) place' values'
-    stored_member e p v =
-        record {
-          past = omega (arith, t.past, count_in (has r.set) j e);
-          stored = v ∙ ap₂ (λ (l : List ℕ) (x : ℕ). set l (32 * (r.process - 1) + j) (word_at s x)) t.stored t.past
-              ∙ sym (values_in s from r.process r.set j were e);
-        }
+module _ {s : List ℕ} {from : ℕ} {r : ViewRecord} {were : List ℕ} {j place : ℕ} {values : List ℕ} (t : Stored s from r were j place values)
+    {place' : ℕ} {values' : List ℕ} where
+  pub stored_member : has r.set (j + 1) ≡ true → place' ≡ place + 4 → values' ≡ set values (32 * (r.process - 1) + j) (word_at s place)
+      → Stored s from r were (j + 1) place' values'
+  stored_member e p v =
+      record {
+        past = omega (arith, t.past, count_in (has r.set) j e);
+        stored = v ∙ ap₂ (λ (l : List ℕ) (x : ℕ). set l (32 * (r.process - 1) + j) (word_at s x)) t.stored t.past
+            ∙ sym (values_in s from r.process r.set j were e);
+      }
 
-    pub stored_other : has r.set (j + 1) ≡ false → place' ≡ place → values' ≡ values → Stored s from r were (j + 1) place' values'
-    stored_other e p v =
-        record {
-          past = omega (arith, t.past, count_out (has r.set) j e);
-          stored = v ∙ t.stored ∙ sym (values_out s from r.process r.set j were e);
-        }
+  pub stored_other : has r.set (j + 1) ≡ false → place' ≡ place → values' ≡ values → Stored s from r were (j + 1) place' values'
+  stored_other e p v =
+      record {
+        past = omega (arith, t.past, count_out (has r.set) j e);
+        stored = v ∙ t.stored ∙ sym (values_out s from r.process r.set j were e);
+      }
 
 -- The file of n processes is read up to a place, with the views v so far: with enough turns, what is left to read ends as the whole does.
 pub record Under (s : List ℕ) (n at : ℕ) (v : Views) : Type 0 where
@@ -55,7 +55,7 @@ pub record Under (s : List ℕ) (n at : ℕ) (v : Views) : Type 0 where
 pub under_first : (s : List ℕ) (n : ℕ) → 3 ≤ length s → n ≤ 32 → Under s n 3 (none_of n)
 under_first s n h l = record { inside = h; most = l; turns = length s; enough = omega arith; left = refl }
 
-module _ (s : List ℕ) (n at : ℕ) (v : Views) (t : Under s n at v) where
+module _ {s : List ℕ} {n at : ℕ} {v : Views} (t : Under s n at v) where
   pub under_end : tested_at s at v.n v.own ≡ Ok None → read_whole s v ≡ read_from (length s) s 3 (none_of n)
   under_end e = sym (read_end t.turns s at v t.inside t.enough e) ∙ t.left
 

@@ -79,7 +79,6 @@ fn with_view(s: &[u8], at: usize, mut v: Views, r: ViewRecord) -> Views
 }
 
 // The records after the header.
-#[tactic(auto, using(crate::proofs::Steps::under_first, crate::proofs::Steps::under_view))]
 fn read_records(s: &[u8], n: u32) -> ViewsRead
     requires { (3 ≤ length s.now) × (n ≤ 32) }
     ensures { result ≡ read_from (length s.now) s.now 3 (none_of n) }

@@ -15,6 +15,6 @@ overflow_add-place c = omega (arith, c.loop-j.invariant.past, count_le (has c.ar
 pub loop-j-preserved : goal.loop-j-preserved
 loop-j-preserved c =
     elim c.if-has.branch [
-      | then-has w ↦ stored_member _ _ _ _ _ _ _ c.loop-j.invariant _ _ (cc) w.place-is (cc)
-      | else-has w ↦ stored_other _ _ _ _ _ _ _ c.loop-j.invariant _ _ (cc) w.place-is w.values-is
+      | then-has w ↦ stored_member c.loop-j.invariant (cc) w.place-is (cc)
+      | else-has w ↦ stored_other c.loop-j.invariant (cc) w.place-is w.values-is
     ]
