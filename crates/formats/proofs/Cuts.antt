@@ -20,7 +20,7 @@ use Rattle.formats.proofs.WholeFile.{refused_exactly}
 
 pub not_true : (b : Bool) → not b ≡ false → b ≡ true
 not_true true e = refl
-not_true false e = absurd (let y : ◌≡◌ {A = ℕ} 0 1 = cc in omega arith)
+not_true false e = cc
 
 -- The first record.
 module _ (s : List ℕ) where

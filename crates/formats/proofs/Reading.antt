@@ -1,21 +1,19 @@
 -- What a header and a record that are read have passed: the five fixed bytes (24), 14, 15, 16, then the values (24).
 use Prim.Native.Nat.{ℕ, ◌+◌, ◌*◌, ◌≤◌}
 use mathlib.Core.Bool.{Bool, true, false, not, ◌&&◌, cond, and-eq-true_iff}
-use mathlib.Core.Path.{◌≡◌, refl, sym, subst}
+use mathlib.Core.Path.{◌≡◌, refl, sym, ap, subst}
 use mathlib.Core.List.{List}
 use native.Mathlib.Omega.{arith}
 use lib.Dec.{leb}
 use lib.ListN.{length}
 use borrow.Author.Tests.{leb-true}
+use Rattle.std.specs.Prelude.{Err, None, Ok, Some}
 use Rattle.sets.specs.Members.{has, size}
 use Rattle.sets.specs.Sets.{first, within}
-use Rattle.formats.specs.declared.FileAnswer.{FileAnswer}
 use Rattle.formats.specs.declared.FileAnswer.TheVariants.{OutOfRange, NoProcess, SecondView, NamesAbove, BodyCut}
 use Rattle.formats.specs.declared.Mark.{Mark}
-use Rattle.formats.specs.declared.Header.{Header}
 use Rattle.formats.specs.declared.ViewRecord.{ViewRecord}
-use Rattle.formats.specs.declared.ViewRecord.TheVariants.{End, Fault, View}
-use Rattle.formats.specs.Records.{byte_at, word_at, mark_at, fits, header_by, header_of, view_by, view_at}
+use Rattle.formats.specs.Records.{byte_at, word_at, mark_at, fits, header_by, header_of, view_by, view_at, Found}
 use Rattle.formats.specs.ViewFile.{values_fit, tested_view, tested_by, tested_at}
 
 pub record Passed (s : List ℕ) (at n own p w : ℕ) : Type 0 where
@@ -27,31 +25,34 @@ pub record Passed (s : List ℕ) (at n own p w : ℕ) : Type 0 where
   pub inside : within w (first n) ≡ true
   pub whole : at + (7 + 4 * size w) ≤ length s
 
--- three kinds of record are told apart
-pub no_fault : {a : FileAnswer} {p w : ℕ} → Fault a ≡ View p w → ⊥
-no_fault e = let z : ◌≡◌ {A = ℕ} 0 1 = cc in omega arith
+-- a view that is read
+abbrev pub View : ℕ → ℕ → Found ViewRecord
+View p w = Ok (Some (record { process = p; set = w }))
 
-pub no_end : {p w : ℕ} → End ≡ View p w → ⊥
-no_end e = let z : ◌≡◌ {A = ℕ} 0 1 = cc in omega arith
+-- what is read is one view
+read_one : {p w q x : ℕ} → View p w ≡ View q x → (p ≡ q) × (w ≡ x)
+read_one {p} {w} {q} {x} e =
+    let v : ◌≡◌ {A = ViewRecord} (record { process = p; set = w }) (record { process = q; set = x }) = cc in
+    (ap (λ (r : ViewRecord). r.process) v, ap (λ (r : ViewRecord). r.set) v)
 
 -- a record that has its fixed bytes, and what stands there
 record Fixed (s : List ℕ) (at p w : ℕ) : Type 0 where
   process : p ≡ byte_at s (at + 2)
   set : w ≡ word_at s (at + 3)
 
-fixed_if : (s : List ℕ) (at p w : ℕ) (b : Bool) → cond b (View (byte_at s (at + 2)) (word_at s (at + 3))) (Fault BodyCut) ≡ View p w → Fixed s at p w
-fixed_if s at p w true e = record { process = cc; set = cc }
-fixed_if s at p w false e = absurd (no_fault e)
+fixed_if : (s : List ℕ) (at p w : ℕ) (b : Bool) → cond b (View (byte_at s (at + 2)) (word_at s (at + 3))) (Err BodyCut) ≡ View p w → Fixed s at p w
+fixed_if s at p w true e = let v = read_one e in record { process = sym v.0; set = sym v.1 }
+fixed_if s at p w false e = cc
 
 fixed_by : (s : List ℕ) (at p w : ℕ) (m : Mark) → view_by s at m ≡ View p w → Fixed s at p w
-fixed_by s at p w Mark.End e = absurd (no_end e)
-fixed_by s at p w Mark.Cut e = absurd (no_fault e)
-fixed_by s at p w Mark.Header e = absurd (no_fault e)
-fixed_by s at p w Mark.Enter e = absurd (no_fault e)
-fixed_by s at p w Mark.Step e = absurd (no_fault e)
-fixed_by s at p w Mark.Crash e = absurd (no_fault e)
+fixed_by s at p w Mark.End e = cc
+fixed_by s at p w Mark.Cut e = cc
+fixed_by s at p w Mark.Header e = cc
+fixed_by s at p w Mark.Enter e = cc
+fixed_by s at p w Mark.Step e = cc
+fixed_by s at p w Mark.Crash e = cc
 fixed_by s at p w Mark.View e = fixed_if s at p w (fits s at 5) e
-fixed_by s at p w Mark.Other e = absurd (no_fault e)
+fixed_by s at p w Mark.Other e = cc
 
 fixed_at : (s : List ℕ) (at p w : ℕ) → view_at s at ≡ View p w → Fixed s at p w
 unfolding view_at
@@ -67,13 +68,13 @@ record Tests (a b c d : Bool) (q w p x : ℕ) : Type 0 where
   set : w ≡ x
 
 tests : (a b c d : Bool) (q w p x : ℕ)
-    → cond (not a) (Fault NoProcess) (cond b (Fault SecondView) (cond (not c) (Fault NamesAbove) (cond (not d) (Fault BodyCut) (View q w)))) ≡ View p x
+    → cond (not a) (Err NoProcess) (cond b (Err SecondView) (cond (not c) (Err NamesAbove) (cond (not d) (Err BodyCut) (View q w)))) ≡ View p x
     → Tests a b c d q w p x
-tests false b c d q w p x e = absurd (no_fault e)
-tests true true c d q w p x e = absurd (no_fault e)
-tests true false false d q w p x e = absurd (no_fault e)
-tests true false true false q w p x e = absurd (no_fault e)
-tests true false true true q w p x e = record { known = refl; new = refl; inside = refl; whole = refl; process = cc; set = cc }
+tests false b c d q w p x e = cc
+tests true true c d q w p x e = cc
+tests true false false d q w p x e = cc
+tests true false true false q w p x e = cc
+tests true false true true q w p x e = let v = read_one e in record { known = refl; new = refl; inside = refl; whole = refl; process = v.0; set = v.1 }
 
 passed_view : (s : List ℕ) (at n own q x p w : ℕ) → Fixed s at q x → tested_view s at n own q x ≡ View p w → Passed s at n own p w
 passed_view s at n own q x p w f e =
@@ -92,10 +93,10 @@ passed_view s at n own q x p w f e =
     } in
     subst (λ (y : ℕ). Passed s at n own p y) t.set (subst (λ (y : ℕ). Passed s at n own y x) t.process g)
 
-passed_by : (s : List ℕ) (at n own p w : ℕ) (r : ViewRecord) → view_at s at ≡ r → tested_by s at n own r ≡ View p w → Passed s at n own p w
-passed_by s at n own p w End r e = absurd (no_end e)
-passed_by s at n own p w (Fault a) r e = absurd (no_fault e)
-passed_by s at n own p w (View q x) r e = passed_view s at n own q x p w (fixed_at s at q x r) e
+passed_by : (s : List ℕ) (at n own p w : ℕ) (r : Found ViewRecord) → view_at s at ≡ r → tested_by s at n own r ≡ View p w → Passed s at n own p w
+passed_by s at n own p w (Ok None) r e = cc
+passed_by s at n own p w (Err a) r e = cc
+passed_by s at n own p w (Ok (Some v)) r e = passed_view s at n own v.process v.set p w (fixed_at s at v.process v.set r) e
 
 pub passed : (s : List ℕ) (at n own p w : ℕ) → tested_at s at n own ≡ View p w → Passed s at n own p w
 unfolding tested_at
@@ -108,23 +109,20 @@ pub record Opened (s : List ℕ) (n : ℕ) : Type 0 where
   pub most : n ≤ 32
   pub long : 3 ≤ length s
 
-no_header : {a : FileAnswer} {n : ℕ} → Header.Fault a ≡ Header.Of n → ⊥
-no_header e = let z : ◌≡◌ {A = ℕ} 0 1 = cc in omega arith
-
 record HeaderTests (a b : Bool) (x n : ℕ) : Type 0 where
   long : a ≡ true
   range : b ≡ true
   same : x ≡ n
 
 header_tests : (a b : Bool) (x n : ℕ)
-    → cond a (cond b (Header.Of x) (Header.Fault OutOfRange)) (Header.Fault BodyCut) ≡ Header.Of n → HeaderTests a b x n
-header_tests false b x n e = absurd (no_header e)
-header_tests true false x n e = absurd (no_header e)
+    → cond a (cond b (Ok x) (Err OutOfRange)) (Err BodyCut) ≡ Ok n → HeaderTests a b x n
+header_tests false b x n e = cc
+header_tests true false x n e = cc
 header_tests true true x n e = record { long = refl; range = refl; same = cc }
 
-opened_by : (s : List ℕ) (n : ℕ) (m : Mark) → header_by s m ≡ Header.Of n → Opened s n
-opened_by s n Mark.End e = absurd (no_header e)
-opened_by s n Mark.Cut e = absurd (no_header e)
+opened_by : (s : List ℕ) (n : ℕ) (m : Mark) → header_by s m ≡ Ok n → Opened s n
+opened_by s n Mark.End e = cc
+opened_by s n Mark.Cut e = cc
 opened_by s n Mark.Header e =
     let b = leb 1 (byte_at s 2) && leb (byte_at s 2) 32 in
     let t : HeaderTests (fits s 0 1) b (byte_at s 2) n = header_tests (fits s 0 1) b (byte_at s 2) n e in
@@ -132,12 +130,12 @@ opened_by s n Mark.Header e =
     let low = leb-true 1 (byte_at s 2) k.0 in
     let high = leb-true (byte_at s 2) 32 k.1 in
     record { byte = sym t.same; some = omega (arith, low, t.same); most = omega (arith, high, t.same); long = leb-true 3 (length s) t.long }
-opened_by s n Mark.Enter e = absurd (no_header e)
-opened_by s n Mark.Step e = absurd (no_header e)
-opened_by s n Mark.Crash e = absurd (no_header e)
-opened_by s n Mark.View e = absurd (no_header e)
-opened_by s n Mark.Other e = absurd (no_header e)
+opened_by s n Mark.Enter e = cc
+opened_by s n Mark.Step e = cc
+opened_by s n Mark.Crash e = cc
+opened_by s n Mark.View e = cc
+opened_by s n Mark.Other e = cc
 
-pub opened : (s : List ℕ) (n : ℕ) → header_of s ≡ Header.Of n → Opened s n
+pub opened : (s : List ℕ) (n : ℕ) → header_of s ≡ Ok n → Opened s n
 unfolding header_of
 opened s n e = opened_by s n (mark_at s 0) e

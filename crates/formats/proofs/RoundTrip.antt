@@ -11,7 +11,6 @@ use borrow.Author.Tests.{le-leb, lt-leb}
 use Rattle.sets.specs.Members.{has, count, size}
 use Rattle.sets.specs.Sets.{plus, first, within}
 use Rattle.sets.proofs.Laws.{either, has-known, has_zero, true_known, members_equal, has-plus-same, has-plus_other, plus-below, has_first, true_within}
-use Rattle.formats.specs.declared.ViewRecord.TheVariants.{View}
 use Rattle.formats.specs.declared.Views.{Views}
 use Rattle.formats.specs.Records.{byte_at, word_at, word_bytes}
 use Rattle.formats.specs.Views.{owns, seen_by, value_by, cell, none_of}
@@ -19,6 +18,7 @@ use Rattle.formats.specs.Range.{InRange, ReadsBack}
 use Rattle.text.specs.Parts.{joined}
 use Rattle.formats.specs.ViewFile.{value_bytes, view_bytes, file_of, tested_at, with_view, read_whole, read_from, read_by, read_of}
 use Rattle.formats.specs.Promises.{Bytes, WritesBytes}
+use Rattle.formats.proofs.Reading.{View}
 use Rattle.formats.proofs.Tests.{leb_same}
 use Rattle.formats.proofs.Values.{values_length, Room, seen_here, seen_other, value_in_lem, value_out, value_other, by_place, by_cell, zeros, by_one}
 use Rattle.formats.proofs.Turns.{read_end, read_view}

@@ -1,13 +1,14 @@
 -- Each of document 01's numbers is given exactly when it applies: at one record, and then along a whole file.
 use Prim.Native.Nat.{ℕ, ◌+◌, ◌*◌, ◌≤◌, ◌<◌}
 use mathlib.Core.Bool.{Bool, true, false, not, ◌&&◌, cond, and-eq-true_iff}
-use mathlib.Core.Path.{◌≡◌, refl, sym, ap, ap₂, ◌∙◌}
+use mathlib.Core.Path.{◌≡◌, refl, sym, ap, ap₂, ◌∙◌, subst}
 use mathlib.Core.Logic.{◌≢◌, ⊎_elim}
 use mathlib.Core.List.{List, [], ◌∷◌}
 use native.Mathlib.Omega.{arith}
 use lib.Dec.{leb, ltb, eqb}
 use lib.ListN.{length}
 use borrow.Author.Tests.{leb-true, leb-false, eqb-true, le-leb, lt-leb, lt-ltb, le-ltb, eq-eqb, ne_eqb}
+use Rattle.std.specs.Prelude.{Result, Some, None, Ok, Err}
 use Rattle.sets.specs.Members.{has, size}
 use Rattle.sets.specs.Sets.{first, within}
 use Rattle.sets.proofs.Laws.{either, same_truth}
@@ -15,14 +16,13 @@ use Rattle.formats.specs.declared.FileAnswer.{FileAnswer}
 use Rattle.formats.specs.declared.FileAnswer.TheVariants.{OutOfRange, NotHeader, OtherMark, MarkCut, BodyCut, HeaderAgain}
 use Rattle.formats.specs.declared.FileAnswer.TheVariants.{NoProcess, SecondView, NamesAbove}
 use Rattle.formats.specs.declared.Mark.{Mark}
-use Rattle.formats.specs.declared.Header.{Header}
 use Rattle.formats.specs.declared.ViewRecord.{ViewRecord}
-use Rattle.formats.specs.declared.ViewRecord.TheVariants.{End, Fault, View}
 use Rattle.formats.specs.Numbers.{file_number}
-use Rattle.formats.specs.Records.{byte_at, word_at, is_mark, mark_of, mark_at, fits, header_by, header_of, view_by, view_at}
+use Rattle.formats.specs.Records.{byte_at, word_at, is_mark, mark_of, mark_at, fits, header_by, header_of, view_by, view_at, Found}
 use Rattle.formats.specs.ViewFile.{values_fit, tested_by, tested_at}
 use Rattle.sets.specs.Lines.{when, first_that}
 use Rattle.formats.specs.Table.{header_lines, process_at, set_at, end_at, viewed, record_lines}
+use Rattle.formats.proofs.Reading.{View}
 
 -- a failed order is the other order
 pub not_leb : (a b c : ℕ) → a ≡ c → not (leb a b) ≡ ltb b c
@@ -56,7 +56,7 @@ mark_foreign x y e f =
     = λ b. cond (is_mark 69 78 x y) Mark.Enter (cond (is_mark 83 84 x y) Mark.Step (cond (is_mark 67 82 x y) Mark.Crash (cond b Mark.View Mark.Other))) in
     ap (λ (b : Bool). cond b Mark.Header (rest (is_mark 86 87 x y))) e ∙ ap rest f
 
-view_foreign : (s : List ℕ) (at : ℕ) (a b c : Bool) → view_by s at (foreign a b c) ≡ Fault OtherMark
+view_foreign : (s : List ℕ) (at : ℕ) (a b c : Bool) → view_by s at (foreign a b c) ≡ Err OtherMark
 unfolding foreign
 view_foreign s at true b c = refl
 view_foreign s at false true c = refl
@@ -67,7 +67,7 @@ view_foreign s at false false false = refl
 unheaded : Bool → Bool → Bool → Bool → Mark
 unheaded a b c d = cond a Mark.Enter (cond b Mark.Step (cond c Mark.Crash (cond d Mark.View Mark.Other)))
 
-header_unheaded : (s : List ℕ) (a b c d : Bool) → header_by s (unheaded a b c d) ≡ Header.Fault NotHeader
+header_unheaded : (s : List ℕ) (a b c d : Bool) → header_by s (unheaded a b c d) ≡ Err NotHeader
 unfolding unheaded
 header_unheaded s true b c d = refl
 header_unheaded s false true c d = refl
@@ -76,55 +76,55 @@ header_unheaded s false false false true = refl
 header_unheaded s false false false false = refl
 
 -- The record at a place where bytes are left, as a choice by the tests of the table.
-fixed_part : List ℕ → ℕ → ViewRecord
-fixed_part s at = cond (not (fits s at 5)) (Fault BodyCut) (View (byte_at s (at + 2)) (word_at s (at + 3)))
+fixed_part : List ℕ → ℕ → Found ViewRecord
+fixed_part s at = cond (not (fits s at 5)) (Err BodyCut) (View (byte_at s (at + 2)) (word_at s (at + 3)))
 
-turned : (b : Bool) (x y : ViewRecord) → cond b x y ≡ cond (not b) y x
+turned : (b : Bool) (x y : Found ViewRecord) → cond b x y ≡ cond (not b) y x
 turned true x y = refl
 turned false x y = refl
 
 view_by_lem : (s : List ℕ) (at x y : ℕ)
-    → view_by s at (mark_of x y) ≡ cond (is_mark 77 78 x y) (Fault HeaderAgain) (cond (not (is_mark 86 87 x y)) (Fault OtherMark) (fixed_part s at))
+    → view_by s at (mark_of x y) ≡ cond (is_mark 77 78 x y) (Err HeaderAgain) (cond (not (is_mark 86 87 x y)) (Err OtherMark) (fixed_part s at))
 unfolding fixed_part
 view_by_lem s at x y =
     ⊎_elim
     (λ e. ap (view_by s at) (mark_header x y e)
-    ∙ sym (ap (λ (b : Bool). cond b (Fault HeaderAgain) (cond (not (is_mark 86 87 x y)) (Fault OtherMark) (fixed_part s at))) e))
+    ∙ sym (ap (λ (b : Bool). cond b (Err HeaderAgain) (cond (not (is_mark 86 87 x y)) (Err OtherMark) (fixed_part s at))) e))
     (λ e. ⊎_elim
     (λ f. ap (view_by s at) (mark_view x y f)
-    ∙ turned (fits s at 5) (View (byte_at s (at + 2)) (word_at s (at + 3))) (Fault BodyCut)
-    ∙ sym (ap₂ (λ (b c : Bool). cond b (Fault HeaderAgain) (cond (not c) (Fault OtherMark) (fixed_part s at))) e f))
+    ∙ turned (fits s at 5) (View (byte_at s (at + 2)) (word_at s (at + 3))) (Err BodyCut)
+    ∙ sym (ap₂ (λ (b c : Bool). cond b (Err HeaderAgain) (cond (not c) (Err OtherMark) (fixed_part s at))) e f))
     (λ f. ap (view_by s at) (mark_foreign x y e f)
     ∙ view_foreign s at (is_mark 69 78 x y) (is_mark 83 84 x y) (is_mark 67 82 x y)
-    ∙ sym (ap₂ (λ (b c : Bool). cond b (Fault HeaderAgain) (cond (not c) (Fault OtherMark) (fixed_part s at))) e f))
+    ∙ sym (ap₂ (λ (b c : Bool). cond b (Err HeaderAgain) (cond (not c) (Err OtherMark) (fixed_part s at))) e f))
     (either (is_mark 86 87 x y)))
     (either (is_mark 77 78 x y))
 
 view_at_lem : (s : List ℕ) (at : ℕ) → at < length s
-    → view_at s at ≡ cond (eqb (length s) (at + 1)) (Fault MarkCut)
-    (cond (is_mark 77 78 (byte_at s at) (byte_at s (at + 1))) (Fault HeaderAgain)
-    (cond (not (is_mark 86 87 (byte_at s at) (byte_at s (at + 1)))) (Fault OtherMark) (fixed_part s at)))
+    → view_at s at ≡ cond (eqb (length s) (at + 1)) (Err MarkCut)
+    (cond (is_mark 77 78 (byte_at s at) (byte_at s (at + 1))) (Err HeaderAgain)
+    (cond (not (is_mark 86 87 (byte_at s at) (byte_at s (at + 1)))) (Err OtherMark) (fixed_part s at)))
 unfolding view_at mark_at
 view_at_lem s at h =
     let m : Mark = mark_of (byte_at s at) (byte_at s (at + 1)) in
-    let push : (b : Bool) → view_by s at (cond b Mark.Cut m) ≡ cond b (Fault MarkCut) (view_by s at m) = elim [ true ↦ refl | false ↦ refl ] in
+    let push : (b : Bool) → view_by s at (cond b Mark.Cut m) ≡ cond b (Err MarkCut) (view_by s at m) = elim [ true ↦ refl | false ↦ refl ] in
     ap (λ (b : Bool). view_by s at (cond b Mark.End (cond (eqb (length s) (at + 1)) Mark.Cut m))) (lt-leb (length s) at h)
     ∙ push (eqb (length s) (at + 1))
-    ∙ ap (λ (r : ViewRecord). cond (eqb (length s) (at + 1)) (Fault MarkCut) r) (view_by_lem s at (byte_at s at) (byte_at s (at + 1)))
+    ∙ ap (λ (r : Found ViewRecord). cond (eqb (length s) (at + 1)) (Err MarkCut) r) (view_by_lem s at (byte_at s at) (byte_at s (at + 1)))
 
-view_end : (s : List ℕ) (at : ℕ) → length s ≤ at → view_at s at ≡ End
+view_end : (s : List ℕ) (at : ℕ) → length s ≤ at → view_at s at ≡ (Ok None)
 unfolding view_at mark_at
 view_end s at h =
     let mark : Mark = cond (eqb (length s) (at + 1)) Mark.Cut (mark_of (byte_at s at) (byte_at s (at + 1))) in
     ap (λ (b : Bool). view_by s at (cond b Mark.End mark)) (le-leb (length s) at h)
 
-chain : Bool → Bool → Bool → Bool → Bool → Bool → Bool → Bool → ViewRecord → ViewRecord
+chain : Bool → Bool → Bool → Bool → Bool → Bool → Bool → Bool → Found ViewRecord → Found ViewRecord
 chain a b c d e f g h r =
-    cond a (Fault MarkCut) (cond b (Fault HeaderAgain) (cond c (Fault OtherMark) (cond d (Fault BodyCut)
-    (cond e (Fault NoProcess) (cond f (Fault SecondView) (cond g (Fault NamesAbove) (cond h (Fault BodyCut) r)))))))
+    cond a (Err MarkCut) (cond b (Err HeaderAgain) (cond c (Err OtherMark) (cond d (Err BodyCut)
+    (cond e (Err NoProcess) (cond f (Err SecondView) (cond g (Err NamesAbove) (cond h (Err BodyCut) r)))))))
 
-push : (s : List ℕ) (at n own : ℕ) (x : FileAnswer) (b : Bool) (r : ViewRecord)
-    → tested_by s at n own (cond b (Fault x) r) ≡ cond b (Fault x) (tested_by s at n own r)
+push : (s : List ℕ) (at n own : ℕ) (x : FileAnswer) (b : Bool) (r : Found ViewRecord)
+    → tested_by s at n own (cond b (Err x) r) ≡ cond b (Err x) (tested_by s at n own r)
 push s at n own x true r = refl
 push s at n own x false r = refl
 
@@ -144,23 +144,22 @@ tested_at_lem s at n own h =
     let cut : not (values_fit s at w) ≡ ltb (length s) (at + 7 + 4 * size w)
     = not_leb (at + 2 + (5 + 4 * size w)) (length s) (at + 7 + 4 * size w) (omega arith) in
     ap (tested_by s at n own) (view_at_lem s at h)
-    ∙ push s at n own MarkCut a (cond b (Fault HeaderAgain) (cond c (Fault OtherMark) (fixed_part s at)))
-    ∙ ap (λ (r : ViewRecord). cond a (Fault MarkCut) r) (push s at n own HeaderAgain b (cond c (Fault OtherMark) (fixed_part s at)))
-    ∙ ap (λ (r : ViewRecord). cond a (Fault MarkCut) (cond b (Fault HeaderAgain) r)) (push s at n own OtherMark c (fixed_part s at))
-    ∙ ap (λ (r : ViewRecord). cond a (Fault MarkCut) (cond b (Fault HeaderAgain) (cond c (Fault OtherMark) r)))
+    ∙ push s at n own MarkCut a (cond b (Err HeaderAgain) (cond c (Err OtherMark) (fixed_part s at)))
+    ∙ ap (λ (r : Found ViewRecord). cond a (Err MarkCut) r) (push s at n own HeaderAgain b (cond c (Err OtherMark) (fixed_part s at)))
+    ∙ ap (λ (r : Found ViewRecord). cond a (Err MarkCut) (cond b (Err HeaderAgain) r)) (push s at n own OtherMark c (fixed_part s at))
+    ∙ ap (λ (r : Found ViewRecord). cond a (Err MarkCut) (cond b (Err HeaderAgain) (cond c (Err OtherMark) r)))
     (push s at n own BodyCut (not (fits s at 5)) (View p w))
-    ∙ ap₂ (λ (d k : Bool). cond a (Fault MarkCut) (cond b (Fault HeaderAgain) (cond c (Fault OtherMark) (cond d (Fault BodyCut)
-    (cond (not (leb 1 p && leb p n)) (Fault NoProcess) (cond (has own p) (Fault SecondView) (cond (not (within w (first n))) (Fault NamesAbove)
-    (cond k (Fault BodyCut) (View p w))))))))) short cut
+    ∙ ap₂ (λ (d k : Bool). cond a (Err MarkCut) (cond b (Err HeaderAgain) (cond c (Err OtherMark) (cond d (Err BodyCut)
+    (cond (not (leb 1 p && leb p n)) (Err NoProcess) (cond (has own p) (Err SecondView) (cond (not (within w (first n))) (Err NamesAbove)
+    (cond k (Err BodyCut) (View p w))))))))) short cut
 
--- the number of what stands at a place
-abbrev pub record_number_lem : ViewRecord → ℕ
-record_number_lem End = 0
-record_number_lem (Fault a) = file_number a
-record_number_lem (View p w) = 0
+-- the number of what is read: that of its fault, if it has one
+abbrev pub fault_number : {T : Type 0} → Result T FileAnswer → ℕ
+fault_number (Ok x) = 0
+fault_number (Err a) = file_number a
 
 number_chain : (a b c d e f g h : Bool) (p w : ℕ)
-    → record_number_lem (chain a b c d e f g h (View p w))
+    → fault_number (chain a b c d e f g h (View p w))
     ≡ first_that (when 11 a ∷ when 12 b ∷ when 10 c ∷ when 24 d ∷ when 14 e ∷ when 15 f ∷ when 16 g ∷ when 24 h ∷ [])
 unfolding chain
 number_chain true b c d e f g h p w = refl
@@ -176,7 +175,7 @@ number_chain false false false false false false false false p w = refl
 -- over the table's lines, where n is the file's and `own` the processes of the records before
 pub record_number : (s : List ℕ) (at n own : ℕ) (before : List ℕ) → at < length s → n ≡ byte_at s 2
     → has own (process_at s at) ≡ viewed s (process_at s at) before
-    → record_number_lem (tested_at s at n own) ≡ first_that (record_lines s at before)
+    → fault_number (tested_at s at n own) ≡ first_that (record_lines s at before)
 record_number s at n own before h e f =
     let p = process_at s at in
     let w = set_at s at in
@@ -185,58 +184,69 @@ record_number s at n own before h e f =
     let c = not (is_mark 86 87 (byte_at s at) (byte_at s (at + 1))) in
     let d = ltb (length s) (at + 7) in
     let g = ltb (length s) (end_at s at) in
-    ap record_number_lem (tested_at_lem s at n own h)
+    ap fault_number (tested_at_lem s at n own h)
     ∙ number_chain a b c d (not (leb 1 p && leb p n)) (has own p) (not (within w (first n))) g p w
     ∙ ap₂ (λ (n : ℕ) (o : Bool). first_that (when 11 a ∷ when 12 b ∷ when 10 c ∷ when 24 d ∷ when 14 (not (leb 1 p && leb p n)) ∷ when 15 o
     ∷ when 16 (not (within w (first n))) ∷ when 24 g ∷ [])) e f
 
--- a fault has a number
-told_apart : (x y : FileAnswer) → Fault x ≡ Fault y → file_number y ≡ 0 → file_number x ≡ 0
-told_apart x y q z = ap record_number_lem q ∙ z
+-- what stands at a place where bytes are left is no end, and a fault there has a number
+abbrev Tells : Found ViewRecord → Type 0
+Tells (Ok None) = ⊥
+Tells (Ok (Some r)) = Unit {0}
+Tells (Err a) = file_number a ≢ 0
 
-chain_fault : (a b c d e f g h : Bool) (p w : ℕ) (x : FileAnswer) → chain a b c d e f g h (View p w) ≡ Fault x → file_number x ≢ 0
+chain_tells : (a b c d e f g h : Bool) (p w : ℕ) → Tells (chain a b c d e f g h (View p w))
 unfolding chain
-chain_fault true b c d e f g h p w x q z = let y : file_number MarkCut ≡ 0 = told_apart MarkCut x q z in omega arith
-chain_fault false true c d e f g h p w x q z = let y : file_number HeaderAgain ≡ 0 = told_apart HeaderAgain x q z in omega arith
-chain_fault false false true d e f g h p w x q z = let y : file_number OtherMark ≡ 0 = told_apart OtherMark x q z in omega arith
-chain_fault false false false true e f g h p w x q z = let y : file_number BodyCut ≡ 0 = told_apart BodyCut x q z in omega arith
-chain_fault false false false false true f g h p w x q z = let y : file_number NoProcess ≡ 0 = told_apart NoProcess x q z in omega arith
-chain_fault false false false false false true g h p w x q z = let y : file_number SecondView ≡ 0 = told_apart SecondView x q z in omega arith
-chain_fault false false false false false false true h p w x q z = let y : file_number NamesAbove ≡ 0 = told_apart NamesAbove x q z in omega arith
-chain_fault false false false false false false false true p w x q z = let y : file_number BodyCut ≡ 0 = told_apart BodyCut x q z in omega arith
-chain_fault false false false false false false false false p w x q z = let y : ◌≡◌ {A = ℕ} 0 1 = cc in omega arith
+chain_tells true b c d e f g h p w = λ z. omega arith
+chain_tells false true c d e f g h p w = λ z. omega arith
+chain_tells false false true d e f g h p w = λ z. omega arith
+chain_tells false false false true e f g h p w = λ z. omega arith
+chain_tells false false false false true f g h p w = λ z. omega arith
+chain_tells false false false false false true g h p w = λ z. omega arith
+chain_tells false false false false false false true h p w = λ z. omega arith
+chain_tells false false false false false false false true p w = λ z. omega arith
+chain_tells false false false false false false false false p w = tt
+
+tells : (s : List ℕ) (at n own : ℕ) → at < length s → Tells (tested_at s at n own)
+tells s at n own l = subst Tells (sym (tested_at_lem s at n own l)) (chain_tells _ _ _ _ _ _ _ _ _ _)
+
+pub not_end : (s : List ℕ) (at n own : ℕ) → at < length s → tested_at s at n own ≡ Ok None → ⊥
+not_end s at n own l e = subst Tells e (tells s at n own l)
+
+pub record_refused : (s : List ℕ) (at n own : ℕ) (x : FileAnswer) → at < length s → tested_at s at n own ≡ Err x → file_number x ≢ 0
+record_refused s at n own x l e = subst Tells e (tells s at n own l)
 
 -- The first record.
-header_chain_lem : Bool → Bool → Bool → Bool → Bool → Header → Header
+header_chain_lem : Bool → Bool → Bool → Bool → Bool → Result ℕ FileAnswer → Result ℕ FileAnswer
 header_chain_lem a b c d e r =
-    cond a (Header.Fault NotHeader) (cond b (Header.Fault MarkCut) (cond c (Header.Fault NotHeader)
-    (cond d (Header.Fault BodyCut) (cond e (Header.Fault OutOfRange) r))))
+    cond a (Err NotHeader) (cond b (Err MarkCut) (cond c (Err NotHeader)
+    (cond d (Err BodyCut) (cond e (Err OutOfRange) r))))
 
-header_swapped : (b e : Bool) (x y z : Header) → cond b (cond e x y) z ≡ cond (not b) z (cond (not e) y x)
+header_swapped : (b e : Bool) (x y z : Result ℕ FileAnswer) → cond b (cond e x y) z ≡ cond (not b) z (cond (not e) y x)
 header_swapped true true x y z = refl
 header_swapped true false x y z = refl
 header_swapped false e x y z = refl
 
-header_part : List ℕ → Header
+header_part : List ℕ → Result ℕ FileAnswer
 header_part s =
-    cond (not (fits s 0 1)) (Header.Fault BodyCut)
-    (cond (not (leb 1 (byte_at s 2) && leb (byte_at s 2) 32)) (Header.Fault OutOfRange) (Header.Of (byte_at s 2)))
+    cond (not (fits s 0 1)) (Err BodyCut)
+    (cond (not (leb 1 (byte_at s 2) && leb (byte_at s 2) 32)) (Err OutOfRange) (Ok (byte_at s 2)))
 
-header_by_lem : (s : List ℕ) (x y : ℕ) → header_by s (mark_of x y) ≡ cond (not (is_mark 77 78 x y)) (Header.Fault NotHeader) (header_part s)
+header_by_lem : (s : List ℕ) (x y : ℕ) → header_by s (mark_of x y) ≡ cond (not (is_mark 77 78 x y)) (Err NotHeader) (header_part s)
 unfolding mark_of header_part unheaded
 header_by_lem s x y =
     ⊎_elim
     (λ e. ap (header_by s) (mark_header x y e)
-    ∙ header_swapped (fits s 0 1) (leb 1 (byte_at s 2) && leb (byte_at s 2) 32) (Header.Of (byte_at s 2)) (Header.Fault OutOfRange) (Header.Fault BodyCut)
-    ∙ sym (ap (λ (b : Bool). cond (not b) (Header.Fault NotHeader) (header_part s)) e))
+    ∙ header_swapped (fits s 0 1) (leb 1 (byte_at s 2) && leb (byte_at s 2) 32) (Ok (byte_at s 2)) (Err OutOfRange) (Err BodyCut)
+    ∙ sym (ap (λ (b : Bool). cond (not b) (Err NotHeader) (header_part s)) e))
     (λ e. ap (λ (b : Bool). header_by s (cond b Mark.Header (unheaded (is_mark 69 78 x y) (is_mark 83 84 x y) (is_mark 67 82 x y) (is_mark 86 87 x y)))) e
     ∙ header_unheaded s (is_mark 69 78 x y) (is_mark 83 84 x y) (is_mark 67 82 x y) (is_mark 86 87 x y)
-    ∙ sym (ap (λ (b : Bool). cond (not b) (Header.Fault NotHeader) (header_part s)) e))
+    ∙ sym (ap (λ (b : Bool). cond (not b) (Err NotHeader) (header_part s)) e))
     (either (is_mark 77 78 x y))
 
 header_is : (s : List ℕ)
     → header_of s ≡ header_chain_lem (eqb (length s) 0) (eqb (length s) 1) (not (is_mark 77 78 (byte_at s 0) (byte_at s 1))) (ltb (length s) 3)
-    (not (leb 1 (byte_at s 2) && leb (byte_at s 2) 32)) (Header.Of (byte_at s 2))
+    (not (leb 1 (byte_at s 2) && leb (byte_at s 2) 32)) (Ok (byte_at s 2))
 unfolding header_of mark_at header_part header_chain_lem
 header_is s =
     let m : Mark = mark_of (byte_at s 0) (byte_at s 1) in
@@ -245,25 +255,21 @@ header_is s =
     (λ t. let z : length s ≡ 0 = omega (arith, leb-true (length s) 0 t) in eq-eqb (length s) 0 z)
     (λ t. let z : length s ≤ 0 = omega (arith, eqb-true (length s) 0 t) in le-leb (length s) 0 z) in
     let push : (a b : Bool)
-    → header_by s (cond a Mark.End (cond b Mark.Cut m)) ≡ cond a (Header.Fault NotHeader) (cond b (Header.Fault MarkCut) (header_by s m))
-    = λ a b. elim a as (λ (a : Bool). header_by s (cond a Mark.End (cond b Mark.Cut m)) ≡ cond a (Header.Fault NotHeader) (cond b (Header.Fault MarkCut) (header_by s m))) [
+    → header_by s (cond a Mark.End (cond b Mark.Cut m)) ≡ cond a (Err NotHeader) (cond b (Err MarkCut) (header_by s m))
+    = λ a b. elim a as (λ (a : Bool). header_by s (cond a Mark.End (cond b Mark.Cut m)) ≡ cond a (Err NotHeader) (cond b (Err MarkCut) (header_by s m))) [
       | true ↦ refl
-      | false ↦ elim b as (λ (b : Bool). header_by s (cond b Mark.Cut m) ≡ cond b (Header.Fault MarkCut) (header_by s m)) [ true ↦ refl | false ↦ refl ]
+      | false ↦ elim b as (λ (b : Bool). header_by s (cond b Mark.Cut m) ≡ cond b (Err MarkCut) (header_by s m)) [ true ↦ refl | false ↦ refl ]
     ] in
     push (leb (length s) 0) (eqb (length s) 1)
-    ∙ ap₂ (λ (a : Bool) (r : Header). cond a (Header.Fault NotHeader) (cond (eqb (length s) 1) (Header.Fault MarkCut) r)) none
+    ∙ ap₂ (λ (a : Bool) (r : Result ℕ FileAnswer). cond a (Err NotHeader) (cond (eqb (length s) 1) (Err MarkCut) r)) none
     (header_by_lem s (byte_at s 0) (byte_at s 1))
-    ∙ ap (λ (d : Bool). cond (eqb (length s) 0) (Header.Fault NotHeader) (cond (eqb (length s) 1) (Header.Fault MarkCut)
-    (cond (not (is_mark 77 78 (byte_at s 0) (byte_at s 1))) (Header.Fault NotHeader) (cond d (Header.Fault BodyCut)
-    (cond (not (leb 1 (byte_at s 2) && leb (byte_at s 2) 32)) (Header.Fault OutOfRange) (Header.Of (byte_at s 2)))))))
+    ∙ ap (λ (d : Bool). cond (eqb (length s) 0) (Err NotHeader) (cond (eqb (length s) 1) (Err MarkCut)
+    (cond (not (is_mark 77 78 (byte_at s 0) (byte_at s 1))) (Err NotHeader) (cond d (Err BodyCut)
+    (cond (not (leb 1 (byte_at s 2) && leb (byte_at s 2) 32)) (Err OutOfRange) (Ok (byte_at s 2)))))))
     (not_leb 3 (length s) 3 refl)
 
-abbrev pub header_number_lem : Header → ℕ
-header_number_lem (Header.Of n) = 0
-header_number_lem (Header.Fault a) = file_number a
-
 header_chain : (a b c d e : Bool) (n : ℕ)
-    → header_number_lem (header_chain_lem a b c d e (Header.Of n)) ≡ first_that (when 9 a ∷ when 11 b ∷ when 9 c ∷ when 24 d ∷ when 8 e ∷ [])
+    → fault_number (header_chain_lem a b c d e (Ok n)) ≡ first_that (when 9 a ∷ when 11 b ∷ when 9 c ∷ when 24 d ∷ when 8 e ∷ [])
 unfolding header_chain_lem
 header_chain true b c d e n = refl
 header_chain false true c d e n = refl
@@ -272,59 +278,31 @@ header_chain false false false true e n = refl
 header_chain false false false false true n = refl
 header_chain false false false false false n = refl
 
-pub header_number : (s : List ℕ) → header_number_lem (header_of s) ≡ first_that (header_lines s)
-header_number s =
-    ap header_number_lem (header_is s)
-    ∙ header_chain (eqb (length s) 0) (eqb (length s) 1) (not (is_mark 77 78 (byte_at s 0) (byte_at s 1))) (ltb (length s) 3)
-    (not (leb 1 (byte_at s 2) && leb (byte_at s 2) 32)) (byte_at s 2)
+pub header_number : (s : List ℕ) → fault_number (header_of s) ≡ first_that (header_lines s)
+header_number s = ap fault_number (header_is s) ∙ header_chain _ _ _ _ _ _
 
-header_fault : (a b c d e : Bool) (n : ℕ) (x : FileAnswer) → header_chain_lem a b c d e (Header.Of n) ≡ Header.Fault x → file_number x ≢ 0
+abbrev Refuses : Result ℕ FileAnswer → Type 0
+Refuses (Ok n) = Unit {0}
+Refuses (Err a) = file_number a ≢ 0
+
+header_refuses : (a b c d e : Bool) (n : ℕ) → Refuses (header_chain_lem a b c d e (Ok n))
 unfolding header_chain_lem
-header_fault true b c d e n x q z = let y : file_number NotHeader ≡ 0 = ap header_number_lem q ∙ z in omega arith
-header_fault false true c d e n x q z = let y : file_number MarkCut ≡ 0 = ap header_number_lem q ∙ z in omega arith
-header_fault false false true d e n x q z = let y : file_number NotHeader ≡ 0 = ap header_number_lem q ∙ z in omega arith
-header_fault false false false true e n x q z = let y : file_number BodyCut ≡ 0 = ap header_number_lem q ∙ z in omega arith
-header_fault false false false false true n x q z = let y : file_number OutOfRange ≡ 0 = ap header_number_lem q ∙ z in omega arith
-header_fault false false false false false n x q z = let y : ◌≡◌ {A = ℕ} 0 1 = cc in omega arith
+header_refuses true b c d e n = λ z. omega arith
+header_refuses false true c d e n = λ z. omega arith
+header_refuses false false true d e n = λ z. omega arith
+header_refuses false false false true e n = λ z. omega arith
+header_refuses false false false false true n = λ z. omega arith
+header_refuses false false false false false n = tt
 
-pub header_refused : (s : List ℕ) (x : FileAnswer) → header_of s ≡ Header.Fault x → file_number x ≢ 0
-header_refused s x e =
-    header_fault (eqb (length s) 0) (eqb (length s) 1) (not (is_mark 77 78 (byte_at s 0) (byte_at s 1))) (ltb (length s) 3)
-    (not (leb 1 (byte_at s 2) && leb (byte_at s 2) 32)) (byte_at s 2) x (sym (header_is s) ∙ e)
+pub header_refused : (s : List ℕ) (x : FileAnswer) → header_of s ≡ Err x → file_number x ≢ 0
+header_refused s x e = subst Refuses (sym (header_is s) ∙ e) (header_refuses _ _ _ _ _ _)
 
--- what stands at a place where bytes are left is no end, and a fault there has a number
-chain_end : (a b c d e f g h : Bool) (p w : ℕ) → chain a b c d e f g h (View p w) ≡ End → ⊥
-unfolding chain
-chain_end true b c d e f g h p w q = let y : ◌≡◌ {A = ℕ} 0 1 = cc in omega arith
-chain_end false true c d e f g h p w q = let y : ◌≡◌ {A = ℕ} 0 1 = cc in omega arith
-chain_end false false true d e f g h p w q = let y : ◌≡◌ {A = ℕ} 0 1 = cc in omega arith
-chain_end false false false true e f g h p w q = let y : ◌≡◌ {A = ℕ} 0 1 = cc in omega arith
-chain_end false false false false true f g h p w q = let y : ◌≡◌ {A = ℕ} 0 1 = cc in omega arith
-chain_end false false false false false true g h p w q = let y : ◌≡◌ {A = ℕ} 0 1 = cc in omega arith
-chain_end false false false false false false true h p w q = let y : ◌≡◌ {A = ℕ} 0 1 = cc in omega arith
-chain_end false false false false false false false true p w q = let y : ◌≡◌ {A = ℕ} 0 1 = cc in omega arith
-chain_end false false false false false false false false p w q = let y : ◌≡◌ {A = ℕ} 0 1 = cc in omega arith
-
-pub not_end : (s : List ℕ) (at n own : ℕ) → at < length s → tested_at s at n own ≡ End → ⊥
-not_end s at n own l e =
-    chain_end (eqb (length s) (at + 1)) (is_mark 77 78 (byte_at s at) (byte_at s (at + 1))) (not (is_mark 86 87 (byte_at s at) (byte_at s (at + 1))))
-    (ltb (length s) (at + 7)) (not (leb 1 (byte_at s (at + 2)) && leb (byte_at s (at + 2)) n)) (has own (byte_at s (at + 2)))
-    (not (within (word_at s (at + 3)) (first n))) (ltb (length s) (at + 7 + 4 * size (word_at s (at + 3)))) (byte_at s (at + 2)) (word_at s (at + 3))
-    (sym (tested_at_lem s at n own l) ∙ e)
-
-pub record_refused : (s : List ℕ) (at n own : ℕ) (x : FileAnswer) → at < length s → tested_at s at n own ≡ Fault x → file_number x ≢ 0
-record_refused s at n own x l e =
-    chain_fault (eqb (length s) (at + 1)) (is_mark 77 78 (byte_at s at) (byte_at s (at + 1))) (not (is_mark 86 87 (byte_at s at) (byte_at s (at + 1))))
-    (ltb (length s) (at + 7)) (not (leb 1 (byte_at s (at + 2)) && leb (byte_at s (at + 2)) n)) (has own (byte_at s (at + 2)))
-    (not (within (word_at s (at + 3)) (first n))) (ltb (length s) (at + 7 + 4 * size (word_at s (at + 3)))) (byte_at s (at + 2)) (word_at s (at + 3))
-    x (sym (tested_at_lem s at n own l) ∙ e)
-
-pub at_end : (s : List ℕ) (at n own : ℕ) → length s ≤ at → tested_at s at n own ≡ End
+pub at_end : (s : List ℕ) (at n own : ℕ) → length s ≤ at → tested_at s at n own ≡ (Ok None)
 unfolding tested_at
 at_end s at n own h = ap (tested_by s at n own) (view_end s at h)
 
 -- where no line applies the record is read
-chain_none : {a b c d e f g h : Bool} (r : ViewRecord) → a ≡ false → b ≡ false → c ≡ false → d ≡ false → e ≡ false → f ≡ false → g ≡ false → h ≡ false
+chain_none : {a b c d e f g h : Bool} (r : Found ViewRecord) → a ≡ false → b ≡ false → c ≡ false → d ≡ false → e ≡ false → f ≡ false → g ≡ false → h ≡ false
     → chain a b c d e f g h r ≡ r
 unfolding chain
 chain_none r a b c d e f g h = λ i. chain (a i) (b i) (c i) (d i) (e i) (f i) (g i) (h i) r
@@ -345,15 +323,15 @@ tested_view_lem s at n own p w v m ep ew low high new inside long =
     tested_at_lem s at n own (omega arith) ∙ chain_none (View (byte_at s (at + 2)) (word_at s (at + 3))) a b c d e f g h ∙ ap₂ View ep ew
 
 -- and so is a header
-header_chain_none : {a b c d e : Bool} (r : Header) → a ≡ false → b ≡ false → c ≡ false → d ≡ false → e ≡ false → header_chain_lem a b c d e r ≡ r
+header_chain_none : {a b c d e : Bool} (r : Result ℕ FileAnswer) → a ≡ false → b ≡ false → c ≡ false → d ≡ false → e ≡ false → header_chain_lem a b c d e r ≡ r
 unfolding header_chain_lem
 header_chain_none r a b c d e = λ i. header_chain_lem (a i) (b i) (c i) (d i) (e i) r
 
-pub header_read : (n : ℕ) (t : List ℕ) → 1 ≤ n → n ≤ 32 → header_of (77 ∷ 78 ∷ n ∷ t) ≡ Header.Of n
+pub header_read : (n : ℕ) (t : List ℕ) → 1 ≤ n → n ≤ 32 → header_of (77 ∷ 78 ∷ n ∷ t) ≡ Ok n
 header_read n t low high =
     let s : List ℕ = 77 ∷ 78 ∷ n ∷ t in
     let a : eqb (length s) 0 ≡ false = ne_eqb (length s) 0 (λ z. omega arith) in
     let b : eqb (length s) 1 ≡ false = ne_eqb (length s) 1 (λ z. omega arith) in
     let d : ltb (length s) 3 ≡ false = le-ltb (length s) 3 (omega arith) in
     let e : not (leb 1 n && leb n 32) ≡ false = ap₂ (λ (x y : Bool). not (x && y)) (le-leb 1 n low) (le-leb n 32 high) in
-    header_is s ∙ header_chain_none (Header.Of n) a b refl d e
+    header_is s ∙ header_chain_none (Ok n) a b refl d e

@@ -10,26 +10,26 @@ use native.Mathlib.Omega.{arith}
 use lib.Dec.{eqb}
 use lib.ListN.{length, length-replicate, length-set}
 use borrow.Author.Tests.{eqb-true, eq-eqb, ne_eqb}
+use Rattle.std.specs.Prelude.{Result, Some, None, Ok, Err}
 use Rattle.sets.specs.Members.{has, count, size}
 use Rattle.sets.specs.Sets.{plus, first, within}
 use Rattle.sets.specs.Lines.{first_that}
 use Rattle.sets.proofs.Laws.{either, has-known, has_zero, members_equal, has-plus-same, has-plus_other, plus-below}
-use Rattle.formats.specs.declared.Header.{Header}
+use Rattle.formats.specs.declared.FileAnswer.{FileAnswer}
 use Rattle.formats.specs.declared.ViewRecord.{ViewRecord}
-use Rattle.formats.specs.declared.ViewRecord.TheVariants.{End, Fault, View}
 use Rattle.formats.specs.declared.Views.{Views}
-use Rattle.formats.specs.Records.{byte_at, word_at, header_of}
+use Rattle.formats.specs.Records.{byte_at, word_at, header_of, Found}
 use Rattle.formats.specs.Views.{seen_by, value_by, cell, none_of}
 use Rattle.formats.specs.ViewFile.{tested_at, with_view}
 use Rattle.formats.specs.Table.{process_at, set_at, value_at, end_at, viewed, record_lines, Reached, Carried}
 use Rattle.formats.specs.Table as table
-use Rattle.formats.proofs.Reading.{Passed, passed, opened}
+use Rattle.formats.proofs.Reading.{View, Passed, passed, opened}
 use Rattle.formats.proofs.Values.{values_length, Room, seen_here, seen_other, value_in_lem, value_out, value_other, by_place, by_cell, zeros, by_one}
-use Rattle.formats.proofs.Table.{record_number_lem, record_number, header_number_lem, header_number, header_refused, not_end, record_refused}
+use Rattle.formats.proofs.Table.{fault_number, record_number, header_number, header_refused, not_end, record_refused}
 
 -- The places that the definition of reading comes to, each with the records before it and the views read of them.
 pub data Walked (s : List ℕ) : ℕ → List ℕ → Views → Type 0 where
-  start : {n : ℕ} → header_of s ≡ Header.Of n → Walked s 3 [] (none_of n)
+  start : {n : ℕ} → header_of s ≡ Ok n → Walked s 3 [] (none_of n)
   more : {at : ℕ} {before : List ℕ} {v : Views} {p w : ℕ} → Walked s at before v → tested_at s at v.n v.own ≡ View p w
       → Walked s (at + (7 + 4 * size w)) (at ∷ before) (with_view s at v p w)
 
@@ -138,7 +138,7 @@ walked_carried {s} (more {at = at} {before = before} {v = v} {p = p} {w = w} r e
 
 -- The table's places are those of the definition.
 module _ {s : List ℕ} {at : ℕ} {before : List ℕ} {v : Views} (r : Walked s at before v) where
-  pub walked_number : at < length s → record_number_lem (tested_at s at v.n v.own) ≡ first_that (record_lines s at before)
+  pub walked_number : at < length s → fault_number (tested_at s at v.n v.own) ≡ first_that (record_lines s at before)
   walked_number l =
       let c = walked_carried r in
       record_number s at v.n v.own before l c.n (c.own (process_at s at))
@@ -148,23 +148,25 @@ end_same : (s : List ℕ) (at w : ℕ) → w ≡ set_at s at → at + (7 + 4 * s
 end_same s at w e = ap (λ (x : ℕ). at + (7 + 4 * size x)) e ∙ omega arith
 
 pub walked_reached : {s : List ℕ} {at : ℕ} {before : List ℕ} {v : Views} → Walked s at before v → Reached s at before
-walked_reached {s} (start e) = table.start (sym (header_number s) ∙ ap header_number_lem e)
+walked_reached {s} (start e) = table.start (sym (header_number s) ∙ ap fault_number e)
 walked_reached {s} (more {at = at} {before = before} {v = v} {p = p} {w = w} r e) =
     let t = passed s at v.n v.own p w e in
     let l : at < length s = omega (arith, t.whole) in
     subst (λ (y : ℕ). Reached s y (at ∷ before)) (sym (end_same s at w t.set))
-    (table.more (walked_reached r) l (sym (walked_number r l) ∙ ap record_number_lem e))
+    (table.more (walked_reached r) l (sym (walked_number r l) ∙ ap fault_number e))
 
 -- where no line applies there is a header, or a view
-header_by_lem : (s : List ℕ) (x : Header) → header_of s ≡ x → header_number_lem x ≡ 0 → (v : Views) × Walked s 3 [] v
-header_by_lem s (Header.Of n) e z = (none_of n, start e)
-header_by_lem s (Header.Fault a) e z = absurd (header_refused s a e z)
+header_by_lem : (s : List ℕ) (x : Result ℕ FileAnswer) → header_of s ≡ x → fault_number x ≡ 0 → (v : Views) × Walked s 3 [] v
+header_by_lem s (Ok n) e z = (none_of n, start e)
+header_by_lem s (Err a) e z = absurd (header_refused s a e z)
 
 record_by : {s : List ℕ} {at : ℕ} {before : List ℕ} {v : Views} → Walked s at before v → at < length s
-    → (x : ViewRecord) → tested_at s at v.n v.own ≡ x → record_number_lem x ≡ 0 → (u : Views) × Walked s (end_at s at) (at ∷ before) u
-record_by {s} {at} {before} {v} r l End e z = absurd (not_end s at v.n v.own l e)
-record_by {s} {at} {before} {v} r l (Fault a) e z = absurd (record_refused s at v.n v.own a l e z)
-record_by {s} {at} {before} {v} r l (View p w) e z =
+    → (x : Found ViewRecord) → tested_at s at v.n v.own ≡ x → fault_number x ≡ 0 → (u : Views) × Walked s (end_at s at) (at ∷ before) u
+record_by {s} {at} {before} {v} r l (Ok None) e z = absurd (not_end s at v.n v.own l e)
+record_by {s} {at} {before} {v} r l (Err a) e z = absurd (record_refused s at v.n v.own a l e z)
+record_by {s} {at} {before} {v} r l (Ok (Some x)) e z =
+    let p : ℕ = x.process in
+    let w : ℕ = x.set in
     let u : Views = with_view s at v p w in
     (u, subst (λ (y : ℕ). Walked s y (at ∷ before) u) (end_same s at w (passed s at v.n v.own p w e).set) (more r e))
 

@@ -9,24 +9,23 @@ use native.Mathlib.Nat.{eq-or-lt_of_le}
 use native.Mathlib.Omega.{arith}
 use lib.ListN.{length}
 use borrow.Author.Tests.{eqb-true}
+use Rattle.std.specs.Prelude.{Result, Some, None, Ok, Err}
 use Rattle.sets.specs.Members.{size}
 use Rattle.formats.specs.declared.FileAnswer.{FileAnswer}
-use Rattle.formats.specs.declared.Header.{Header}
 use Rattle.formats.specs.declared.ViewRecord.{ViewRecord}
-use Rattle.formats.specs.declared.ViewRecord.TheVariants.{End, Fault, View}
 use Rattle.formats.specs.declared.Views.{Views}
 use Rattle.formats.specs.declared.ViewsRead.{ViewsRead}
 use Rattle.formats.specs.Numbers.{file_number, is_whole}
-use Rattle.formats.specs.Records.{header_of}
+use Rattle.formats.specs.Records.{header_of, Found}
 use Rattle.formats.specs.Views.{none_of}
 use Rattle.formats.specs.Range.{InRange}
 use Rattle.formats.specs.ViewFile.{tested_at, with_view, refused_at, read_whole, read_next, read_from, read_by, read_of}
 use Rattle.formats.specs.Table.{Refusal, place_given, RefusedExactly, ReadExactly}
 use Rattle.formats.specs.Promises.{ReadInRange, ReadPlace, RefusedGivesNone}
-use Rattle.formats.proofs.Reading.{passed, opened}
+use Rattle.formats.proofs.Reading.{View, passed, opened}
 use Rattle.formats.proofs.Turns.{read_end, read_fault, read_view}
 use Rattle.formats.proofs.Ranges.{walked_in_range}
-use Rattle.formats.proofs.Table.{record_number_lem, header_number_lem, header_number, header_refused, not_end, record_refused, at_end}
+use Rattle.formats.proofs.Table.{fault_number, header_number, header_refused, not_end, record_refused, at_end}
 use Rattle.formats.proofs.Walked.{Walked, start, more, walked_carried, walked_number, walked_reached, reached_walked, carried_one}
 
 -- At a place that reading comes to, the rest is read with turns enough.
@@ -49,23 +48,23 @@ comes {s} (more {at = at} {v = v} {p = p} {w = w} r e) =
 data Ends (s : List ℕ) (r : ViewsRead) : Type 0 where
   whole : (places : List ℕ) (v : Views) → Walked s (length s) places v → r ≡ read_whole s v → Ends s r
   refused : (a : FileAnswer) (at : ℕ) (before : List ℕ) (v : Views) → Walked s at before v → at < length s
-      → tested_at s at v.n v.own ≡ Fault a → r ≡ refused_at s a at → Ends s r
+      → tested_at s at v.n v.own ≡ Err a → r ≡ refused_at s a at → Ends s r
 
 ends_by : (s : List ℕ) (at : ℕ) (before : List ℕ) (v : Views) → Walked s at before v → at ≤ length s → (next : ℕ → Views → ViewsRead)
     → ((p w : ℕ) → tested_at s at v.n v.own ≡ View p w → Ends s (next (at + (7 + 4 * size w)) (with_view s at v p w)))
-    → (x : ViewRecord) → tested_at s at v.n v.own ≡ x → Ends s (read_next s at v x next)
-ends_by s at before v r l next go End e =
+    → (x : Found ViewRecord) → tested_at s at v.n v.own ≡ x → Ends s (read_next s at v x next)
+ends_by s at before v r l next go (Ok None) e =
     ⊎_elim
     (λ q. whole before v (subst (λ (y : ℕ). Walked s y before v) q r) refl)
     (λ q. absurd (not_end s at v.n v.own q e))
     (eq-or-lt_of_le l)
-ends_by s at before v r l next go (Fault a) e =
+ends_by s at before v r l next go (Err a) e =
     ⊎_elim
-    (λ q. let z : ◌≡◌ {A = ViewRecord} End (Fault a) = sym (at_end s at v.n v.own (omega arith)) ∙ e in
-    let y : ◌≡◌ {A = ℕ} 0 1 = cc in absurd (omega arith))
+    (λ q. let z : ◌≡◌ {A = Found ViewRecord} (Ok None) (Err a) = sym (at_end s at v.n v.own (omega arith)) ∙ e in
+    cc)
     (λ q. refused a at before v r q e refl)
     (eq-or-lt_of_le l)
-ends_by s at before v r l next go (View p w) e = go p w e
+ends_by s at before v r l next go (Ok (Some x)) e = go x.process x.set e
 
 ends : (turns : ℕ) (s : List ℕ) (at : ℕ) (before : List ℕ) (v : Views) → Walked s at before v → at ≤ length s → length s < at + turns
     → Ends s (read_from turns s at v)
@@ -78,13 +77,13 @@ ends (suc k) s at before v r l h =
 
 -- a file's header, or where its reading ends
 data FileEnds (s : List ℕ) : Type 0 where
-  header : (a : FileAnswer) → header_of s ≡ Header.Fault a → read_of s ≡ refused_at s a 0 → FileEnds s
+  header : (a : FileAnswer) → header_of s ≡ Err a → read_of s ≡ refused_at s a 0 → FileEnds s
   records : Ends s (read_of s) → FileEnds s
 
-file_by : (s : List ℕ) (x : Header) → header_of s ≡ x → FileEnds s
+file_by : (s : List ℕ) (x : Result ℕ FileAnswer) → header_of s ≡ x → FileEnds s
 unfolding read_of
-file_by s (Header.Fault a) e = header a e (ap (read_by s) e)
-file_by s (Header.Of n) e =
+file_by s (Err a) e = header a e (ap (read_by s) e)
+file_by s (Ok n) e =
     records (subst (Ends s) (sym (ap (read_by s) e)) (ends (length s) s 3 [] (none_of n) (start e) (opened s n e).long (omega arith)))
 
 file_ends : (s : List ℕ) → FileEnds s
@@ -123,11 +122,11 @@ refusal : (s : List ℕ) (k place : ℕ) → k ≢ 0 → file_number (read_of s)
 unfolding Refused
 refusal s k place n e p (header a h q) =
     let number : file_number a ≡ k = sym (ap (λ (x : ViewsRead). file_number x.answer) q) ∙ e in
-    (0, inl (refl, sym (header_number s) ∙ ap header_number_lem h ∙ number), sym p ∙ refused_place s a k 0 q number)
+    (0, inl (refl, sym (header_number s) ∙ ap fault_number h ∙ number), sym p ∙ refused_place s a k 0 q number)
 refusal s k place n e p (records (whole places v r q)) = absurd (n (sym e ∙ ap (λ (x : ViewsRead). file_number x.answer) q))
 refusal s k place n e p (records (refused a at before v r l t q)) =
     let number : file_number a ≡ k = sym (ap (λ (x : ViewsRead). file_number x.answer) q) ∙ e in
-    (at, inr (before, walked_reached r, l, sym (walked_number r l) ∙ ap record_number_lem t ∙ number), sym p ∙ refused_place s a k at q number)
+    (at, inr (before, walked_reached r, l, sym (walked_number r l) ∙ ap fault_number t ∙ number), sym p ∙ refused_place s a k at q number)
 
 -- the other way
 Answers : List ℕ → ℕ → ℕ → Type 0
@@ -137,16 +136,16 @@ answers : (s : List ℕ) (a : FileAnswer) (k at : ℕ) → read_of s ≡ refused
 unfolding Answers
 answers s a k at q e = (ap (λ (x : ViewsRead). file_number x.answer) q ∙ e, refused_place s a k at q e)
 
-header_answers : (s : List ℕ) (k : ℕ) → k ≢ 0 → (x : Header) → header_of s ≡ x → header_number_lem x ≡ k → Answers s k 0
+header_answers : (s : List ℕ) (k : ℕ) → k ≢ 0 → (x : Result ℕ FileAnswer) → header_of s ≡ x → fault_number x ≡ k → Answers s k 0
 unfolding read_of
-header_answers s k n (Header.Of m) e f = absurd (n (sym f))
-header_answers s k n (Header.Fault a) e f = answers s a k 0 (ap (read_by s) e) f
+header_answers s k n (Ok m) e f = absurd (n (sym f))
+header_answers s k n (Err a) e f = answers s a k 0 (ap (read_by s) e) f
 
 record_answers : (s : List ℕ) (k at : ℕ) (before : List ℕ) (v : Views) → k ≢ 0 → Walked s at before v
-    → (x : ViewRecord) → tested_at s at v.n v.own ≡ x → record_number_lem x ≡ k → Answers s k at
-record_answers s k at before v n r End e f = absurd (n (sym f))
-record_answers s k at before v n r (View p w) e f = absurd (n (sym f))
-record_answers s k at before v n r (Fault a) e f =
+    → (x : Found ViewRecord) → tested_at s at v.n v.own ≡ x → fault_number x ≡ k → Answers s k at
+record_answers s k at before v n r (Ok None) e f = absurd (n (sym f))
+record_answers s k at before v n r (Ok (Some x)) e f = absurd (n (sym f))
+record_answers s k at before v n r (Err a) e f =
     let c = comes r in
     answers s a k at (c.same ∙ read_fault c.turns s at v c.inside c.enough a e) f
 

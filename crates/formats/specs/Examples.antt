@@ -1,6 +1,6 @@
 -- View files on both sides of each of the numbers 8 to 12, 14 to 16 and 24: bytes, number and place. One file byte for byte. What the cuts of a file
 -- answer. And the records of order files.
-use Rattle.std.specs.Prelude.{ℕ, ◌+◌, ◌-◌, Bool, true, ◌&&◌, ◌≡◌, List, [], ◌∷◌, ◌++◌, eqb, replicate}
+use Rattle.std.specs.Prelude.{ℕ, ◌+◌, ◌-◌, Bool, true, ◌&&◌, ◌≡◌, List, [], ◌∷◌, ◌++◌, eqb, replicate, Some, None, Ok, Err}
 use Rattle.text.specs.Ascii.{ascii}
 use Rattle.text.specs.Parts.{joined}
 use Rattle.formats.specs.declared.FileAnswer.TheVariants.{Whole, OtherMark, MarkCut, BodyCut, HeaderAgain, SecondView}
@@ -159,15 +159,15 @@ record_cuts at bytes = cut 0 at ∷ cut 11 at ∷ joined (at + 2) (bytes - 2) (�
 
 -- Records of an order file after its header, on both sides of 10, 11 and 12; the value's four bytes differ.
 pub record OrdersRead : Type 0 where
-  pub nothing_left : order_at two 3 ≡ Order.End
-  pub one_byte : order_at (two ++ ascii "E") 3 ≡ Order.Fault MarkCut
-  pub header_again : order_at (two ++ ascii "MN") 3 ≡ Order.Fault HeaderAgain
-  pub view : order_at (two ++ both) 3 ≡ Order.Fault OtherMark
-  pub foreign : order_at (two ++ ascii "NE") 3 ≡ Order.Fault OtherMark
-  pub enter : order_at (two ++ 69 ∷ 78 ∷ 1 ∷ 4 ∷ 3 ∷ 2 ∷ 1 ∷ []) 3 ≡ Order.Enter 1 16909060
-  pub enter_cut : order_at (two ++ ascii "EN" ++ 1 ∷ 4 ∷ 3 ∷ 2 ∷ []) 3 ≡ Order.Fault BodyCut
-  pub step : order_at (two ++ 83 ∷ 84 ∷ 2 ∷ []) 3 ≡ Order.Step 2
-  pub step_cut : order_at (two ++ ascii "ST") 3 ≡ Order.Fault BodyCut
-  pub crash : order_at (two ++ 67 ∷ 82 ∷ 0 ∷ []) 3 ≡ Order.Crash 0
-  pub crash_cut : order_at (two ++ ascii "CR") 3 ≡ Order.Fault BodyCut
-  pub past_another : order_at (two ++ ascii "ST" ++ 2 ∷ ascii "CR" ++ 255 ∷ ascii "S") 6 ≡ Order.Crash 255
+  pub nothing_left : order_at two 3 ≡ Ok None
+  pub one_byte : order_at (two ++ ascii "E") 3 ≡ Err MarkCut
+  pub header_again : order_at (two ++ ascii "MN") 3 ≡ Err HeaderAgain
+  pub view : order_at (two ++ both) 3 ≡ Err OtherMark
+  pub foreign : order_at (two ++ ascii "NE") 3 ≡ Err OtherMark
+  pub enter : order_at (two ++ 69 ∷ 78 ∷ 1 ∷ 4 ∷ 3 ∷ 2 ∷ 1 ∷ []) 3 ≡ Ok (Some (Order.Enter 1 16909060))
+  pub enter_cut : order_at (two ++ ascii "EN" ++ 1 ∷ 4 ∷ 3 ∷ 2 ∷ []) 3 ≡ Err BodyCut
+  pub step : order_at (two ++ 83 ∷ 84 ∷ 2 ∷ []) 3 ≡ Ok (Some (Order.Step 2))
+  pub step_cut : order_at (two ++ ascii "ST") 3 ≡ Err BodyCut
+  pub crash : order_at (two ++ 67 ∷ 82 ∷ 0 ∷ []) 3 ≡ Ok (Some (Order.Crash 0))
+  pub crash_cut : order_at (two ++ ascii "CR") 3 ≡ Err BodyCut
+  pub past_another : order_at (two ++ ascii "ST" ++ 2 ∷ ascii "CR" ++ 255 ∷ ascii "S") 6 ≡ Ok (Some (Order.Crash 255))

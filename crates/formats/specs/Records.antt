@@ -1,10 +1,10 @@
 -- Marks, little-endian numbers and records, as both kinds of file have them. A file is the list of its bytes, and a place is an offset into it.
-use Rattle.std.specs.Prelude.{ℕ, ◌+◌, ◌*◌, ◌/◌, ◌%◌, Bool, ◌&&◌, cond, List, [], ◌∷◌, leb, eqb, length, get_or}
+use Rattle.std.specs.Prelude.{ℕ, ◌+◌, ◌*◌, ◌/◌, ◌%◌, Bool, ◌&&◌, cond, List, [], ◌∷◌, leb, eqb, length, get_or, Option, Some, None, Result, Ok, Err}
 use Prim.Native.String.{String, char_at}
 use Prim.Native.Char.{code}
+use Rattle.formats.specs.declared.FileAnswer.{FileAnswer}
 use Rattle.formats.specs.declared.FileAnswer.TheVariants.{OutOfRange, NotHeader, OtherMark, MarkCut, BodyCut, HeaderAgain}
 use Rattle.formats.specs.declared.Mark.{Mark}
-use Rattle.formats.specs.declared.Header.{Header}
 use Rattle.formats.specs.declared.Order.{Order}
 use Rattle.formats.specs.declared.ViewRecord.{ViewRecord}
 
@@ -43,45 +43,49 @@ fits s at body = leb (at + 2 + body) (length s)
 
 -- "`MN`, n (1 byte): first record of both kinds." One byte left is 11; then the mark (9 in first place); then the body's length (24, item 2 of document
 -- 02); then 8 for the header.
-abbrev pub header_by : List ℕ → Mark → Header
-header_by s Mark.End = Header.Fault NotHeader
-header_by s Mark.Cut = Header.Fault MarkCut
+abbrev pub header_by : List ℕ → Mark → Result ℕ FileAnswer
+header_by s Mark.End = Err NotHeader
+header_by s Mark.Cut = Err MarkCut
 header_by s Mark.Header =
-    cond (fits s 0 1) (cond (leb 1 (byte_at s 2) && leb (byte_at s 2) 32) (Header.Of (byte_at s 2)) (Header.Fault OutOfRange)) (Header.Fault BodyCut)
-header_by s Mark.Enter = Header.Fault NotHeader
-header_by s Mark.Step = Header.Fault NotHeader
-header_by s Mark.Crash = Header.Fault NotHeader
-header_by s Mark.View = Header.Fault NotHeader
-header_by s Mark.Other = Header.Fault NotHeader
+    cond (fits s 0 1) (cond (leb 1 (byte_at s 2) && leb (byte_at s 2) 32) (Ok (byte_at s 2)) (Err OutOfRange)) (Err BodyCut)
+header_by s Mark.Enter = Err NotHeader
+header_by s Mark.Step = Err NotHeader
+header_by s Mark.Crash = Err NotHeader
+header_by s Mark.View = Err NotHeader
+header_by s Mark.Other = Err NotHeader
 
-unfoldable pub header_of : List ℕ → Header
+unfoldable pub header_of : List ℕ → Result ℕ FileAnswer
 header_of s = header_by s (mark_at s 0)
+
+-- What stands at a later record's place: the record, none where the file ends there, or its fault.
+abbrev pub Found : Type 0 → Type 0
+Found r = Result (Option r) FileAnswer
 
 -- A later record: one byte left is 11; then the mark (12, 10); then the body's length (24).
 -- Order file: `EN`, process (1), value (4). `ST`, process (1). `CR`, process (1).
-abbrev pub order_by : List ℕ → ℕ → Mark → Order
-order_by s at Mark.End = Order.End
-order_by s at Mark.Cut = Order.Fault MarkCut
-order_by s at Mark.Header = Order.Fault HeaderAgain
-order_by s at Mark.Enter = cond (fits s at 5) (Order.Enter (byte_at s (at + 2)) (word_at s (at + 3))) (Order.Fault BodyCut)
-order_by s at Mark.Step = cond (fits s at 1) (Order.Step (byte_at s (at + 2))) (Order.Fault BodyCut)
-order_by s at Mark.Crash = cond (fits s at 1) (Order.Crash (byte_at s (at + 2))) (Order.Fault BodyCut)
-order_by s at Mark.View = Order.Fault OtherMark
-order_by s at Mark.Other = Order.Fault OtherMark
+abbrev pub order_by : List ℕ → ℕ → Mark → Found Order
+order_by s at Mark.End = Ok None
+order_by s at Mark.Cut = Err MarkCut
+order_by s at Mark.Header = Err HeaderAgain
+order_by s at Mark.Enter = cond (fits s at 5) (Ok (Some (Order.Enter (byte_at s (at + 2)) (word_at s (at + 3))))) (Err BodyCut)
+order_by s at Mark.Step = cond (fits s at 1) (Ok (Some (Order.Step (byte_at s (at + 2))))) (Err BodyCut)
+order_by s at Mark.Crash = cond (fits s at 1) (Ok (Some (Order.Crash (byte_at s (at + 2))))) (Err BodyCut)
+order_by s at Mark.View = Err OtherMark
+order_by s at Mark.Other = Err OtherMark
 
-unfoldable pub order_at : List ℕ → ℕ → Order
+unfoldable pub order_at : List ℕ → ℕ → Found Order
 order_at s at = order_by s at (mark_at s at)
 
 -- View file: `VW`, process (1), set (4), then its values, which are no part of the record's fixed bytes.
-abbrev pub view_by : List ℕ → ℕ → Mark → ViewRecord
-view_by s at Mark.End = ViewRecord.End
-view_by s at Mark.Cut = ViewRecord.Fault MarkCut
-view_by s at Mark.Header = ViewRecord.Fault HeaderAgain
-view_by s at Mark.Enter = ViewRecord.Fault OtherMark
-view_by s at Mark.Step = ViewRecord.Fault OtherMark
-view_by s at Mark.Crash = ViewRecord.Fault OtherMark
-view_by s at Mark.View = cond (fits s at 5) (ViewRecord.View (byte_at s (at + 2)) (word_at s (at + 3))) (ViewRecord.Fault BodyCut)
-view_by s at Mark.Other = ViewRecord.Fault OtherMark
+abbrev pub view_by : List ℕ → ℕ → Mark → Found ViewRecord
+view_by s at Mark.End = Ok None
+view_by s at Mark.Cut = Err MarkCut
+view_by s at Mark.Header = Err HeaderAgain
+view_by s at Mark.Enter = Err OtherMark
+view_by s at Mark.Step = Err OtherMark
+view_by s at Mark.Crash = Err OtherMark
+view_by s at Mark.View = cond (fits s at 5) (Ok (Some (record { process = byte_at s (at + 2); set = word_at s (at + 3) }))) (Err BodyCut)
+view_by s at Mark.Other = Err OtherMark
 
-unfoldable pub view_at : List ℕ → ℕ → ViewRecord
+unfoldable pub view_at : List ℕ → ℕ → Found ViewRecord
 view_at s at = view_by s at (mark_at s at)

@@ -1,15 +1,14 @@
 -- A view file: its bytes from the views, and the views from its bytes.
-use Rattle.std.specs.Prelude.{ℕ, zero, suc, ◌+◌, ◌-◌, ◌*◌, Bool, not, ◌&&◌, cond, List, [], ◌∷◌, ◌++◌, leb, length, set}
+use Rattle.std.specs.Prelude.{ℕ, zero, suc, ◌+◌, ◌-◌, ◌*◌, Bool, not, ◌&&◌, cond, List, [], ◌∷◌, ◌++◌, leb, length, set, Some, None, Result, Ok, Err}
 use Rattle.sets.specs.Members.{has, count, size}
 use Rattle.sets.specs.Sets.{plus, first, within}
 use Rattle.formats.specs.declared.FileAnswer.{FileAnswer}
 use Rattle.formats.specs.declared.FileAnswer.TheVariants.{Whole, BodyCut, NoProcess, SecondView, NamesAbove}
-use Rattle.formats.specs.declared.Header.{Header}
 use Rattle.formats.specs.declared.ViewRecord.{ViewRecord}
 use Rattle.formats.specs.declared.Views.{Views}
 use Rattle.formats.specs.declared.ViewsRead.{ViewsRead}
 use Rattle.formats.specs.Numbers.{place_of}
-use Rattle.formats.specs.Records.{word_at, word_bytes, fits, header_of, view_at}
+use Rattle.formats.specs.Records.{word_at, word_bytes, fits, header_of, Found, view_at}
 use Rattle.formats.specs.Views.{owns, seen_by, value_by, cell, none_of}
 use Rattle.text.specs.Ascii.{ascii}
 use Rattle.text.specs.Parts.{joined}
@@ -29,20 +28,20 @@ file_of v = ascii "MN" ++ v.n ∷ joined 1 32 (λ i. cond (owns v i) (view_bytes
 abbrev pub values_fit : List ℕ → ℕ → ℕ → Bool
 values_fit s at w = fits s at (5 + 4 * size w)
 
-abbrev pub tested_view : List ℕ → ℕ → ℕ → ℕ → ℕ → ℕ → ViewRecord
+abbrev pub tested_view : List ℕ → ℕ → ℕ → ℕ → ℕ → ℕ → Found ViewRecord
 tested_view s at n own p w =
-    cond (not (leb 1 p && leb p n)) (ViewRecord.Fault NoProcess)
-    (cond (has own p) (ViewRecord.Fault SecondView)
-    (cond (not (within w (first n))) (ViewRecord.Fault NamesAbove)
-    (cond (not (values_fit s at w)) (ViewRecord.Fault BodyCut) (ViewRecord.View p w))))
+    cond (not (leb 1 p && leb p n)) (Err NoProcess)
+    (cond (has own p) (Err SecondView)
+    (cond (not (within w (first n))) (Err NamesAbove)
+    (cond (not (values_fit s at w)) (Err BodyCut) (Ok (Some (record { process = p; set = w }))))))
 
-abbrev pub tested_by : List ℕ → ℕ → ℕ → ℕ → ViewRecord → ViewRecord
-tested_by s at n own ViewRecord.End = ViewRecord.End
-tested_by s at n own (ViewRecord.Fault a) = ViewRecord.Fault a
-tested_by s at n own (ViewRecord.View p w) = tested_view s at n own p w
+abbrev pub tested_by : List ℕ → ℕ → ℕ → ℕ → Found ViewRecord → Found ViewRecord
+tested_by s at n own (Ok None) = Ok None
+tested_by s at n own (Err a) = Err a
+tested_by s at n own (Ok (Some r)) = tested_view s at n own r.process r.set
 
 -- the record at a place of a file of n processes, of which those of `own` have had their view
-unfoldable pub tested_at : List ℕ → ℕ → ℕ → ℕ → ViewRecord
+unfoldable pub tested_at : List ℕ → ℕ → ℕ → ℕ → Found ViewRecord
 tested_at s at n own = tested_by s at n own (view_at s at)
 
 -- the values of the members of w up to j, which stand from a place on, stored as those of process p's view
@@ -65,10 +64,10 @@ abbrev pub read_whole : List ℕ → Views → ViewsRead
 read_whole s v = record { answer = Whole; place = length s; views = v }
 
 -- what follows the record at a place
-abbrev pub read_next : List ℕ → ℕ → Views → ViewRecord → (ℕ → Views → ViewsRead) → ViewsRead
-read_next s at v ViewRecord.End next = read_whole s v
-read_next s at v (ViewRecord.Fault a) next = refused_at s a at
-read_next s at v (ViewRecord.View p w) next = next (at + (7 + 4 * size w)) (with_view s at v p w)
+abbrev pub read_next : List ℕ → ℕ → Views → Found ViewRecord → (ℕ → Views → ViewsRead) → ViewsRead
+read_next s at v (Ok None) next = read_whole s v
+read_next s at v (Err a) next = refused_at s a at
+read_next s at v (Ok (Some r)) next = next (at + (7 + 4 * size r.set)) (with_view s at v r.process r.set)
 
 -- The records from a place on, `turns` of them at most. A record has seven bytes at least, so the file's length is enough and no file comes to
 -- its last turn, which refuses: specs/Table says what is read, and what is refused, with no turns.
@@ -76,9 +75,9 @@ unfoldable pub read_from : ℕ → List ℕ → ℕ → Views → ViewsRead
 read_from zero s at v = refused_at s BodyCut at
 read_from (suc turns) s at v = read_next s at v (tested_at s at v.n v.own) (read_from turns s)
 
-abbrev pub read_by : List ℕ → Header → ViewsRead
-read_by s (Header.Of n) = read_from (length s) s 3 (none_of n)
-read_by s (Header.Fault a) = refused_at s a 0
+abbrev pub read_by : List ℕ → Result ℕ FileAnswer → ViewsRead
+read_by s (Ok n) = read_from (length s) s 3 (none_of n)
+read_by s (Err a) = refused_at s a 0
 
 unfoldable pub read_of : List ℕ → ViewsRead
 read_of s = read_by s (header_of s)

@@ -31,18 +31,9 @@ pub enum Mark {
     Other,
 }
 
-// The first record of both kinds.
-#[derive(Clone, Copy)]
-pub enum Header {
-    Of(u32),
-    Fault(FileAnswer),
-}
-
 // A later record of an order file.
 #[derive(Clone, Copy)]
 pub enum Order {
-    End,
-    Fault(FileAnswer),
     Enter { process: u32, value: u32 },
     Step { process: u32 },
     Crash { process: u32 },
@@ -50,10 +41,9 @@ pub enum Order {
 
 // A later record of a view file, up to its values.
 #[derive(Clone, Copy)]
-pub enum ViewRecord {
-    End,
-    Fault(FileAnswer),
-    View { process: u32, set: u32 },
+pub struct ViewRecord {
+    pub process: u32,
+    pub set: u32,
 }
 
 // The views of a file.

@@ -1,2 +1,3 @@
--- What belongs to no one function.
+-- What a turn of each loop does, and that the contracts leave nothing open.
+pub mod Steps
 pub mod Determined

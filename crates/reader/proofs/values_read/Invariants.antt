@@ -1,13 +1,6 @@
--- `reader::values_read` meets its contract. The loop's invariant: the values of the members up to `member` are stored, and the place is past them.
-use Prim.Native.Nat.{◌+◌, ◌-◌, ◌*◌, ◌≤◌}
-use mathlib.Core.Path.{◌≡◌}
-use Rattle.sets.specs.Members.{has, count}
-use Rattle.formats.specs.ViewFile.{values_read}
+-- The values of the members up to `j` are stored, and the place is past them.
+use Rattle.reader.proofs.Steps.{Stored}
 use Rattle.reader.proofs.values_read.Given as goal
 
-abbrev pub invariant-loop-member : goal.invariant-loop-member
-invariant-loop-member l =
-    (l.member ≤ 32) × (l.place ≡ l.from + 4 * count (has l.w) l.member) × (l.values ≡ values_read l.s l.from l.p l.w l.member l.initial.values)
-
-abbrev pub decreases-loop-member : goal.decreases-loop-member
-decreases-loop-member l = 32 - l.member
+abbrev pub invariant-loop-j : goal.invariant-loop-j
+invariant-loop-j l = Stored l.s l.from l.r l.initial.values l.j l.place l.values
