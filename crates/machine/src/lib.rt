@@ -4,7 +4,7 @@
 ghost use Rattle.std.specs.Prelude.{◌≡◌};
 ghost use Rattle.rules.specs.Calls.{new_of, fresh, enter_of, crash_of, step_of};
 
-use moves::{Asked, Move, Mover};
+use moves::{Move, Runner};
 use rules::{Answer, Called, Machine, Process, Stage};
 
 // A machine of n processes, none of which has entered.
@@ -23,97 +23,91 @@ fn fresh(n: u32) -> Machine
 }
 
 // A new machine of n processes; 8 outside 1 to 32.
+#[tactic(auto, unfolding(rules::specs::Calls::new_of))]
 pub fn new(n: u32) -> Called
     ensures { result ≡ new_of n }
 {
-    if n < 1 {
-        return Called {
-            machine: fresh(1),
-            answer: Answer::OutOfRange,
-        };
-    }
-    if 32 < n {
-        return Called {
-            machine: fresh(1),
-            answer: Answer::OutOfRange,
-        };
-    }
+    let (n, answer) = if (1..=32).contains(&n) {
+        (n, Answer::Done)
+    } else {
+        (1, Answer::OutOfRange)
+    };
     Called {
         machine: fresh(n),
-        answer: Answer::Done,
+        answer,
     }
 }
 
 // Process p enters with value v (rule 3); refuses 1, 2, 3.
+#[tactic(auto, using(moves::proofs::Laws::most), unfolding(rules::specs::Calls::enter_of))]
 pub fn enter(mut m: Machine, p: u32, v: u32) -> Called
     ensures { result ≡ enter_of m p v }
 {
-    match moves::find(m.n, &m.filled, &m.values, m.processes, p) {
-        Asked::Refused(answer) => Called { machine: m, answer },
-        Asked::Record(process) => {
-            let stage = process.stage;
-            match stage {
-                Stage::Absent => {
-                    m.processes[(p - 1) as usize] = Process {
-                        stage: Stage::Running {
-                            level: m.n,
-                            made: 0,
-                            found: 0,
-                        },
-                        value: v,
-                    };
-                    Called {
-                        machine: m,
-                        answer: Answer::Done,
-                    }
-                }
-                _ => Called {
-                    machine: m,
-                    answer: Answer::EnteredBefore,
+    let answer = match moves::find(&m, p) {
+        Err(answer) => answer,
+        Ok(
+            Process {
+                stage: Stage::Absent,
+                ..
+            },
+        ) => {
+            m.processes[(p - 1) as usize] = Process {
+                stage: Stage::Running {
+                    level: m.n,
+                    made: 0,
+                    found: 0,
                 },
-            }
+                value: v,
+            };
+            Answer::Done
         }
-    }
+        Ok(_) => Answer::EnteredBefore,
+    };
+    Called { machine: m, answer }
 }
 
 // Process p crashes where it stands (rule 6); refuses 1, 2, 4, 5, 6.
+#[tactic(auto, using(moves::proofs::Laws::in_place), unfolding(rules::specs::Calls::crash_of))]
 pub fn crash(mut m: Machine, p: u32) -> Called
     ensures { result ≡ crash_of m p }
 {
-    match moves::find_running(m.n, &m.filled, &m.values, m.processes, p) {
-        Mover::Refused(answer) => Called { machine: m, answer },
-        Mover::Running {
-            level,
-            made,
-            found,
-            value,
-        } => {
+    let answer = match moves::find_running(&m, p) {
+        Err(answer) => answer,
+        Ok(
+            Runner {
+                level,
+                made,
+                found,
+                value,
+            },
+        ) => {
             m.processes[(p - 1) as usize] = Process {
                 stage: Stage::Crashed { level, made, found },
                 value,
             };
-            Called {
-                machine: m,
-                answer: Answer::Done,
-            }
+            Answer::Done
         }
-    }
+    };
+    Called { machine: m, answer }
 }
 
 // One register access of process p (rules 4 and 5); refuses 1, 2, 4, 5, 6, 7. One way out, which costs a copy of the state less.
+#[tactic(auto, using(moves::proofs::Laws::write_in_place, moves::proofs::Laws::refused_step, moves::proofs::Laws::write_step, moves::proofs::Laws::turn_step))]
 pub fn step(mut m: Machine, p: u32) -> Called
     ensures { result ≡ step_of m p }
 {
-    let mut answer = Answer::Done;
-    match moves::next_move(m.n, &m.filled, &m.values, m.processes, p) {
-        Move::Refused(a) => {
-            answer = a;
-        }
-        Move::Write {
-            level,
-            found,
-            value,
-        } => {
+    let answer = match moves::next_move(&m, p) {
+        Err(answer) => answer,
+        Ok(
+            Move::Write(
+                Runner {
+                    level,
+                    found,
+                    value,
+                    ..
+                },
+            ),
+        ) => {
             let at = (p - 1) as usize;
             let row = (level - 1) as usize;
             m.filled[row] = sets::plus(m.filled[row], p);
@@ -126,10 +120,12 @@ pub fn step(mut m: Machine, p: u32) -> Called
                 },
                 value,
             };
+            Answer::Done
         }
-        Move::Turn { stage, value } => {
-            m.processes[(p - 1) as usize] = Process { stage, value };
+        Ok(Move::Turn(process)) => {
+            m.processes[(p - 1) as usize] = process;
+            Answer::Done
         }
-    }
+    };
     Called { machine: m, answer }
 }

@@ -1,14 +1,16 @@
 -- Loops over arrays: an array that a loop fills from the front, and a test that a loop gathers.
-use mathlib.Core.Path.{◌≡◌, refl, sym, ◌∙◌, ap, ap₂, subst}
-use mathlib.Core.List.{List, map}
-use mathlib.Core.Bool.{Bool, ◌&&◌}
+use mathlib.Core.Path.{◌≡◌, refl, sym, ◌∙◌, ap₂, subst}
+use mathlib.Core.List.{List}
+use mathlib.Core.Bool.{Bool, false, ◌&&◌, true≢false}
+use mathlib.Core.Logic.{⊎_elim}
 use Prim.Native.Nat.{ℕ, zero, suc, ◌+◌, ◌-◌, ◌<◌}
 use native.Mathlib.Numerals.{add-one}
 use native.Mathlib.Omega.{arith}
 use native.Mathlib.Decide.{ℕ_discrete}
-use lib.ListN.{length, get_or, set, replicate, length-map, get_or-map}
-use lib.Seq.{get_or-set_same, get_or-set_other, ext_get_or}
+use lib.ListN.{length, get_or, set, replicate}
+use lib.Seq.{get_or-set_same, get_or-set_other}
 use Rattle.sets.specs.Sets.{every}
+use Rattle.sets.proofs.Laws.{either, every_true}
 
 -- the elements of l below i are f's; d stands past an array's end
 pub record Upto {A : Type 0} (d : A) (f : ℕ → A) (l : List A) (i : ℕ) : Type 0 where
@@ -26,24 +28,19 @@ upto_more {d = d} {f} {l} {i} v h e u = record {
   ];
 }
 
--- all of it: the array is the map of another
-pub upto_map : {A B : Type 0} (g : A → B) (d : A) (s : List A) (l : List B) (i : ℕ) → length l ≡ length s → i ≡ length s
-    → Upto (g d) (λ k. g (get_or s k d)) l i → l ≡ map g s
-upto_map g d s l i e m u =
-    ext_get_or (g d) l (map g s) (e ∙ sym (length-map s g)) (λ k h. u.at k (omega arith) ∙ sym (get_or-map g s k d))
-
 -- the index of process i + 1
 pub back_one : (i : ℕ) → i + 1 - 1 ≡ i
 back_one i = omega arith
 
 -- a loop that gathers a test over 1, 2, ..: one more
-every_more : (f : ℕ → Bool) (i : ℕ) {b ok : Bool} → b ≡ f (i + 1) → ok ≡ every i f → (b && ok) ≡ every (i + 1) f
+pub every_more : (f : ℕ → Bool) (i : ℕ) {b ok : Bool} → b ≡ f (i + 1) → ok ≡ every i f → (b && ok) ≡ every (i + 1) f
 unfolding every
 every_more f i e e' = ap₂ ◌&&◌ e e' ∙ rw (add-one i)
 
--- the same where the test of p is of what stands at p's place in an array too
-pub every_place : (g : ℕ → ℕ → Bool) (i : ℕ) {b ok : Bool} → b ≡ g (i + 1) i → ok ≡ every i (λ p. g p (p - 1)) → (b && ok) ≡ every (i + 1) (λ p. g p (p - 1))
-every_place g i e e' = every_more (λ p. g p (p - 1)) i (e ∙ ap (g (i + 1)) (sym (back_one i))) e'
+-- it ends where one is not passed
+pub every_fails : (f : ℕ → Bool) (k i : ℕ) → i < k → f (i + 1) ≡ false → every k f ≡ false
+every_fails f k i h e =
+    ⊎_elim (λ t. absurd (true≢false (sym (every_true k f t (i + 1) (omega arith) (omega arith)) ∙ e))) (λ q. q) (either (every k f))
 
 pub get_or_zeros : (n k : ℕ) → ◌≡◌ {A = ℕ} (get_or (replicate n 0) k 0) 0
 get_or_zeros zero k = refl

@@ -1,15 +1,15 @@
 -- The rows as the shape test sees them: processes sorted by the lowest row that each has written, and the sets that the rows must have.
 use mathlib.Core.Path.{◌≡◌, refl, sym, ap, ap₂, subst, subst⁻¹, ◌∙◌}
 use mathlib.Core.Bool.{Bool, true, false, not, cond, ◌&&◌, ◌||◌, false≢true, and-false, and-true, or-false}
-use mathlib.Core.List.{List, [], ◌∷◌, map}
+use mathlib.Core.List.{List}
 use mathlib.Core.Logic.{⊎_elim}
-use Prim.Native.Nat.{ℕ, zero, suc, ◌+◌, ◌-◌, ◌*◌, ◌≤◌, ◌<◌}
+use Prim.Native.Nat.{ℕ, zero, suc, ◌+◌, ◌-◌, ◌*◌, ◌^◌, ◌≤◌, ◌<◌}
 use native.Mathlib.Numerals.{add-one}
-use native.Mathlib.Decide.{ℕ_discrete, dec_lt}
+use native.Mathlib.Decide.{ℕ_discrete}
 use native.Mathlib.Omega.{arith}
-use lib.Dec.{leb, ltb, eqb}
+use lib.Dec.{leb, ltb, eqb, lit<}
 use lib.Bits.{bit_or, or_lt}
-use lib.ListN.{length, get_or, set, length-map, get_or-eq_default}
+use lib.ListN.{length, get_or, set}
 use lib.Seq.{get_or-set_same, get_or-set_other}
 use borrow.Author.Tests.{leb-true, leb-false, ltb-true, ltb-false, eqb-true, eqb-false, le-leb, lt-leb, lt-ltb, le-ltb, eq-eqb, ne_eqb}
 use Rattle.sets.specs.Members.{has, known}
@@ -23,7 +23,7 @@ use Rattle.rules.specs.declared.Machine.{Machine}
 use Rattle.rules.specs.Stands.{nobody, process_of, stage_of, value_of, row_of, cell_of, entered}
 use Rattle.rules.specs.State.{wrote}
 use Rattle.rules.specs.Shape.{goes, ends, shaped_stage, shaped_process, shaped_records, shaped_register, shaped_registers, shaped}
-use Rattle.shape.specs.Coded.Columns.{LowestRows, lows_of, owns_of, cell_good, cells_good, row_good, rows_good, ByRow, writers_of, lowest_at, lowest_row}
+use Rattle.shape.specs.Coded.Columns.{LowestRows, cell_good, cells_good, row_good, rows_good, ByRow, ReadOff, writers_of, lowest_at, lowest_row}
 use Rattle.shape.proofs.Arrays.{back_one}
 
 -- ---- sorting by lowest row
@@ -36,14 +36,14 @@ set_of_more f i b e =
     (λ q. ap (λ (t : Bool). cond t (plus (set_of f i) (suc i)) (set_of f i)) q) e
 
 -- process p has lowest row x
-abbrev lowest_is : List ℕ → ℕ → ℕ → Bool
-lowest_is low x p = eqb (get_or low (p - 1) 0) x
+abbrev lowest_is : (ℕ → ℕ) → ℕ → ℕ → Bool
+lowest_is low x p = eqb (low (p - 1)) x
 
-pub by_row_none : (low : List ℕ) (buckets : List ℕ) → ((x : ℕ) → get_or buckets x 0 ≡ 0) → ByRow low 0 buckets
+pub by_row_none : (low : ℕ → ℕ) (buckets : List ℕ) → ((x : ℕ) → get_or buckets x 0 ≡ 0) → ByRow low 0 buckets
 unfolding set_of
 by_row_none low buckets z = record { at = λ x h. z x }
 
-pub by_row_more : (low buckets : List ℕ) (i l : ℕ) → l ≡ get_or low i 0 → l ≤ 33 → length buckets ≡ 34 → ByRow low i buckets
+pub by_row_more : (low : ℕ → ℕ) (buckets : List ℕ) (i l : ℕ) → l ≡ low i → l ≤ 33 → length buckets ≡ 34 → ByRow low i buckets
     → ByRow low (i + 1) (set buckets l (plus (get_or buckets l 0) (i + 1)))
 by_row_more low buckets i l lowest h n b = record { at = λ x le. elim (ℕ_discrete l x) [ yes e ↦ here x le e | no ne ↦ there x le ne ] }
   where
@@ -51,7 +51,7 @@ by_row_more low buckets i l lowest h n b = record { at = λ x le. elim (ℕ_disc
     inside = subst (λ (k : ℕ). l < k) (sym n) (omega arith)
 
     at_next : (x : ℕ) → lowest_is low x (i + 1) ≡ eqb l x
-    at_next x = ap (λ (k : ℕ). eqb k x) (ap (λ (k : ℕ). get_or low k 0) (back_one i) ∙ sym lowest)
+    at_next x = ap (λ (k : ℕ). eqb k x) (ap low (back_one i) ∙ sym lowest)
 
     here : (x : ℕ) → x ≤ 33 → l ≡ x → get_or (set buckets l (plus (get_or buckets l 0) (i + 1))) x 0 ≡ set_of (lowest_is low x) (i + 1)
     here x le e =
@@ -90,12 +90,18 @@ or_set_of f g k =
     has_or (set_of f k) (set_of g k) i ∙ ap₂ ◌||◌ (has-set_of f k i) (has-set_of g k i) ∙ either_test (known i && leb i k) (f i) (g i)
     ∙ sym (has-set_of (λ i. f i || g i) k i))
 
+-- the same buckets, of lowest rows that agree
+pub by_row_same : (f g : ℕ → ℕ) (buckets : List ℕ) → ((k : ℕ) → k < 32 → f k ≡ g k) → ByRow f 32 buckets → ByRow g 32 buckets
+by_row_same f g buckets e b = record {
+  at = λ x h. b.at x h ∙ set_of_ext (lowest_is f x) (lowest_is g x) 32 (λ i l u. ap (λ (k : ℕ). eqb k x) (e (i - 1) (omega arith)));
+}
+
 -- ---- who has written a row: those who have written the row below, and those whose lowest row it is
 
 -- nobody has written row 0
-pub writers_none : (low : List ℕ) → ((k : ℕ) → k < 32 → 1 ≤ get_or low k 0) → writers_of low 0 ≡ 0
+pub writers_none : (low : List ℕ) → LowestRows low → writers_of low 0 ≡ 0
 writers_none low p =
-    set_of_ext (λ i. leb (get_or low (i - 1) 0) 0) (λ i. false) 32 (λ i l u. let h = p (i - 1) (omega arith) in lt-leb (get_or low (i - 1) 0) 0 h) ∙ set_of-none 32
+    set_of_ext (λ i. leb (get_or low (i - 1) 0) 0) (λ i. false) 32 (λ i l u. lt-leb (get_or low (i - 1) 0) 0 (p (i - 1) (omega arith)).0) ∙ set_of-none 32
 
 up_to_next : (l x : ℕ) → (leb l x || eqb l (x + 1)) ≡ leb l (x + 1)
 up_to_next l x =
@@ -165,6 +171,22 @@ within_none s =
     (λ i h.
     let k = has-known s i h in
     absurd (false≢true (sym (same_equal (has s i) false (every_true 32 (λ i. same (has s i) false) e i k.0 k.1)) ∙ h))))
+
+-- sets as their numbers
+pub within_same : (s t : ℕ) → s ≡ t → within s t ≡ true
+within_same s t e = true_within s t (λ i m. ap (λ (r : ℕ). has r i) (sym e) ∙ m)
+
+pub same_sets : (s t : ℕ) → s < 2 ^ 32 → t < 2 ^ 32 → eqb s t ≡ (within s t && within t s)
+same_sets s t h k =
+    same_truth (eqb s t) (within s t && within t s)
+    (λ e. let q = eqb-true s t e in and (within_same s t q) (within_same t s (sym q)))
+    (λ e.
+    let q = both e in
+    eq-eqb s t (members_equal s t h k (λ i. same_truth (has s i) (has t i) (within_true s t q.0 i) (within_true t s q.1 i))))
+
+pub no_members : (s : ℕ) → s < 2 ^ 32 → eqb s 0 ≡ within s 0
+no_members s h =
+    same_sets s 0 h (lit< tt) ∙ ap (λ (b : Bool). within s 0 && b) (true_within 0 s (λ i m. absurd (false≢true (sym (has_zero i) ∙ m)))) ∙ and-true (within s 0)
 
 -- a test of sets and a test of registers beside it, taken apart
 every_split : (a b : ℕ → Bool) (c v : ℕ → ℕ)
@@ -253,92 +275,64 @@ lowest_is_wrote n row (Crashed l k f) x m u h = let q = level_low n row l k f h 
 
 -- ---- the test of the code is the test of the definitions
 
--- an element of a map
-pub get_or-map_in : {A : Type 0} (g : A → ℕ) (d : A) (s : List A) (k : ℕ) → k < length s → get_or (map g s) k 0 ≡ g (get_or s k d)
-get_or-map_in g d [] k h = absurd (let z : ⊥ = omega arith in z)
-get_or-map_in g d (a ∷ s) zero h = refl
-get_or-map_in g d (a ∷ s) (suc k) h = get_or-map_in g d s k (omega arith)
-
-get_or-map_out : {A : Type 0} (g : A → ℕ) (s : List A) (k : ℕ) → length s ≤ k → get_or (map g s) k 0 ≡ 0
-get_or-map_out g s k h = get_or-eq_default (map g s) 0 (subst (λ (n : ℕ). n ≤ k) (sym (length-map s g)) h)
-
 -- a record that has passed the tests has a stage that has
 stage_passed : (n : ℕ) (row : ℕ → ℕ) (i : ℕ) (P : Process) → shaped_process n row i P ≡ true → shaped_stage n row P.stage ≡ true
 unfolding shaped_process
 stage_passed n row i P h = (both {a = cond (entered P.stage) (leb i n) (eqb P.value 0)} {b = shaped_stage n row P.stage} h).1
 
--- what the code reads off the records of m
-abbrev pub low_of : Machine → List ℕ
-low_of m = lows_of m.processes
+-- what was read off the records of m
+module _ (m : Machine) (low own : List ℕ) (R : ReadOff m low own) where
+  passed : (i : ℕ) → 1 ≤ i → i ≤ 32 → shaped_stage m.n (row_of m) (stage_of m i) ≡ true
+  passed i l u = stage_passed m.n (row_of m) i (process_of m i) (every_true 32 (λ p. shaped_process m.n (row_of m) p (process_of m p)) R.records i l u)
 
-abbrev pub own_of : Machine → List ℕ
-own_of m = owns_of m.processes
+  pub lowest_rows : LowestRows low
+  lowest_rows k h =
+      subst⁻¹ (λ (x : ℕ). (1 ≤ x) × (x ≤ 33)) (R.low k h)
+      (subst (λ (j : ℕ). (1 ≤ lowest_row (get_or m.processes j nobody).stage) × (lowest_row (get_or m.processes j nobody).stage ≤ 33)) (back_one k)
+      (lowest_low m.n (row_of m) (stage_of m (k + 1)) (passed (k + 1) (omega arith) (omega arith)), lowest_high (stage_of m (k + 1))))
 
-module _ (m : Machine) (most : m.n ≤ 32) (slots : length m.processes ≡ 32) where
-  low_at : (k : ℕ) → k < 32 → get_or (low_of m) k 0 ≡ lowest_row (get_or m.processes k nobody).stage
-  low_at k h = get_or-map_in (λ P. lowest_row P.stage) nobody m.processes k (omega arith)
-
-  own_at : (k : ℕ) → k < 32 → get_or (own_of m) k 0 ≡ (get_or m.processes k nobody).value
-  own_at k h = get_or-map_in (λ P. P.value) nobody m.processes k (omega arith)
-
-  pub low_high : LowestRows (low_of m)
-  low_high k = elim (dec_lt k 32) [
-    | yes h ↦ subst⁻¹ (λ (x : ℕ). x ≤ 33) (low_at k h) (lowest_high (get_or m.processes k nobody).stage)
-    | no h ↦ subst⁻¹ (λ (x : ℕ). x ≤ 33) (get_or-map_out (λ P. lowest_row P.stage) m.processes k (omega arith)) (omega arith)
-  ]
-
-  module _ (records : shaped_records m.n m.filled m.processes ≡ true) where
-    passed : (i : ℕ) → 1 ≤ i → i ≤ 32 → shaped_stage m.n (row_of m) (stage_of m i) ≡ true
-    passed i l u =
-        stage_passed m.n (row_of m) i (process_of m i) (every_true 32 (λ p. shaped_process m.n (row_of m) p (process_of m p)) records i l u)
-
-    pub low_low : (k : ℕ) → k < 32 → 1 ≤ get_or (low_of m) k 0
-    low_low k h =
-        subst⁻¹ (λ (x : ℕ). 1 ≤ x) (low_at k h)
-        (subst (λ (j : ℕ). 1 ≤ lowest_row (get_or m.processes j nobody).stage) (back_one k)
-        (lowest_low m.n (row_of m) (stage_of m (k + 1)) (passed (k + 1) (omega arith) (omega arith))))
-
+  module _ (most : m.n ≤ 32) where
     -- process i's lowest row says whether it has written row x
-    wrote_low : (x i : ℕ) → x ≤ 32 → 1 ≤ i → i ≤ 32 → leb (get_or (low_of m) (i - 1) 0) x ≡ wrote m.n (stage_of m i) x
+    wrote_low : (x i : ℕ) → x ≤ 32 → 1 ≤ i → i ≤ 32 → leb (get_or low (i - 1) 0) x ≡ wrote m.n (stage_of m i) x
     wrote_low x i u l h =
-        ap (λ (k : ℕ). leb k x) (low_at (i - 1) (omega arith)) ∙ lowest_is_wrote m.n (row_of m) (stage_of m i) x most u (passed i l h)
+        ap (λ (k : ℕ). leb k x) (R.low (i - 1) (omega arith)) ∙ lowest_is_wrote m.n (row_of m) (stage_of m i) x most u (passed i l h)
 
     -- process i's register in row x is to be filled, where `up` says whether x is at most n
     abbrev to_fill : Bool → ℕ → ℕ → Bool
     to_fill up x i = up && wrote m.n (stage_of m i) x
 
-    cells_agree : (up : Bool) (x reach : ℕ) → ((i : ℕ) → 1 ≤ i → i ≤ 32 → leb (get_or (low_of m) (i - 1) 0) reach ≡ to_fill up x i)
-        → cells_good m.values (32 * (x - 1)) (low_of m) (own_of m) reach ≡ every 32 (λ i. eqb (cell_of m x i) (cond (to_fill up x i) (value_of m i) 0))
+    cells_agree : (up : Bool) (x reach : ℕ) → ((i : ℕ) → 1 ≤ i → i ≤ 32 → leb (get_or low (i - 1) 0) reach ≡ to_fill up x i)
+        → cells_good m.values (32 * (x - 1)) low own reach ≡ every 32 (λ i. eqb (cell_of m x i) (cond (to_fill up x i) (value_of m i) 0))
     unfolding cells_good
     cells_agree up x reach q =
-        every_ext 32 (cell_good m.values (32 * (x - 1)) (low_of m) (own_of m) reach) (λ i. eqb (cell_of m x i) (cond (to_fill up x i) (value_of m i) 0))
-        (λ i l u. ap₂ (λ (b : Bool) (v : ℕ). eqb (cell_of m x i) (cond b v 0)) (q i l u) (own_at (i - 1) (omega arith)))
+        every_ext 32 (cell_good m.values (32 * (x - 1)) low own reach) (λ i. eqb (cell_of m x i) (cond (to_fill up x i) (value_of m i) 0))
+        (λ i l u. ap₂ (λ (b : Bool) (v : ℕ). eqb (cell_of m x i) (cond b v 0)) (q i l u) (R.own (i - 1) (omega arith)))
 
     -- one row, at most n or above
     row_agrees : (up : Bool) (x : ℕ) → x ≤ 32
         → cond up
-        (within (row_of m x) (writers_of (low_of m) x) && within (writers_of (low_of m) x) (row_of m x) && cells_good m.values (32 * (x - 1)) (low_of m) (own_of m) x)
-        (within (row_of m x) 0 && cells_good m.values (32 * (x - 1)) (low_of m) (own_of m) 0)
+        (within (row_of m x) (writers_of low x) && within (writers_of low x) (row_of m x) && cells_good m.values (32 * (x - 1)) low own x)
+        (within (row_of m x) 0 && cells_good m.values (32 * (x - 1)) low own 0)
         ≡ every 32 (λ i. same (has (row_of m x) i) (to_fill up x i) && eqb (cell_of m x i) (cond (has (row_of m x) i) (value_of m i) 0))
     row_agrees true x u =
         ap₂ ◌&&◌
-        (within-set_of (row_of m x) (λ i. leb (get_or (low_of m) (i - 1) 0) x)
-        ∙ every_ext 32 (λ i. same (has (row_of m x) i) (leb (get_or (low_of m) (i - 1) 0) x)) (λ i. same (has (row_of m x) i) (to_fill true x i))
+        (within-set_of (row_of m x) (λ i. leb (get_or low (i - 1) 0) x)
+        ∙ every_ext 32 (λ i. same (has (row_of m x) i) (leb (get_or low (i - 1) 0) x)) (λ i. same (has (row_of m x) i) (to_fill true x i))
         (λ i l v. ap (same (has (row_of m x) i)) (wrote_low x i u l v)))
         (cells_agree true x x (λ i l v. wrote_low x i u l v))
         ∙ every_split (has (row_of m x)) (to_fill true x) (cell_of m x) (value_of m)
     row_agrees false x u =
-        ap₂ ◌&&◌ (within_none (row_of m x)) (cells_agree false x 0 (λ i l v. lt-leb (get_or (low_of m) (i - 1) 0) 0 (low_low (i - 1) (omega arith))))
+        ap₂ ◌&&◌ (within_none (row_of m x)) (cells_agree false x 0 (λ i l v. lt-leb (get_or low (i - 1) 0) 0 ((lowest_rows (i - 1) (omega arith)).0)))
         ∙ every_split (has (row_of m x)) (to_fill false x) (cell_of m x) (value_of m)
 
-    row_shaped : (x : ℕ) → x ≤ 32 → row_good m.n m.values (low_of m) (own_of m) (row_of m x) x ≡ every 32 (shaped_register m x)
+    row_shaped : (x : ℕ) → x ≤ 32 → row_good m.n m.values low own (row_of m x) x ≡ every 32 (shaped_register m x)
     unfolding shaped_register
     row_shaped x u = row_agrees (leb x m.n) x u
 
-    pub rows_shaped : rows_good m.n m.filled m.values (low_of m) (own_of m) ≡ shaped_registers m
+    pub rows_shaped : rows_good m.n m.filled m.values low own ≡ shaped_registers m
     unfolding rows_good
     rows_shaped =
-        every_ext 32 (λ x. row_good m.n m.values (low_of m) (own_of m) (row_of m x) x) (λ x. every 32 (shaped_register m x)) (λ x l u. row_shaped x u)
+        every_ext 32 (λ x. row_good m.n m.values low own (row_of m x) x) (λ x. every 32 (shaped_register m x)) (λ x l u. row_shaped x u)
 
 -- n and the records have passed; the registers decide
 pub shaped_rest : (m : Machine) → 1 ≤ m.n → m.n ≤ 32 → shaped_records m.n m.filled m.processes ≡ true → shaped m ≡ shaped_registers m

@@ -1,43 +1,23 @@
 -- `shaped` meets its contract: the tests in order, and the law that the test of the rows is that of the registers.
-use mathlib.Core.Path.{◌≡◌, sym, ap₂, ◌∙◌}
-use mathlib.Core.Bool.{true}
-use Prim.Native.Nat.{◌≤◌}
-use borrow.Author.Tests.{le-leb, lt-leb}
-use lib.ListN.{length}
-use Rattle.rules.specs.declared.Machine.{Machine}
-use Rattle.rules.specs.Shape.{shaped, shaped_records}
-use Rattle.shape.specs.Coded.Columns.{rows_good}
-use Rattle.shape.proofs.Rows.{low_high, low_low, rows_shaped, shaped_rest}
+use Rattle.std.proofs.Common.{◌≤◌, sym, ◌∙◌, arith}
+use Rattle.std.proofs.lemmas.Grind.{common_steps}
+use Rattle.rules.specs.Shape.{shaped}
+use Rattle.shape.proofs.Rows.{rows_shaped, shaped_rest}
 use Rattle.shape.proofs.shaped.Goals as goal
 
-pub returns-then-n-lt1 : goal.returns-then-n-lt1
+pub returns-then-not-contains : goal.returns-then-not-contains
 unfolding shaped
-returns-then-n-lt1 c = rw (lt-leb _ _ c.if-n-lt1.true)
+returns-then-not-contains c = let h = c.if-not-contains.ensures.cases in let k = c.contains.ensures in grind (arith, common_steps)
 
-pub returns-then-n-gt32 : goal.returns-then-n-gt32
+pub returns-in-None : goal.returns-in-None
 unfolding shaped
-returns-then-n-gt32 c = rw (le-leb _ _ c.if-n-lt1.false, lt-leb _ _ c.if-n-gt32.true)
+returns-in-None c = let h = c.in-None.ensures in let k = c.if-not-contains.ensures.cases in grind (arith, common_steps)
 
-pub rows_good-requires : goal.rows_good-requires
-rows_good-requires c =
-    let m : Machine = record { n = c.args.n; filled = c.args.filled.now; values = c.args.values.now; processes = c.args.processes } in
-    let most : m.n ≤ 32 = c.if-n-gt32.false in
-    let slots : length m.processes ≡ 32 = c.well_formed.1.1.1.0.1.0.1 in
-    let off = c.read_off-columns.ensures in
-    let records : shaped_records m.n m.filled m.processes ≡ true = sym off.good ∙ c.if-columns.true in
-    rw off.low (low_high m most slots, low_low m most slots records, off.by_row)
-
-pub returns-then-columns : goal.returns-then-columns
-returns-then-columns c =
-    let m : Machine = record { n = c.args.n; filled = c.args.filled.now; values = c.args.values.now; processes = c.args.processes } in
-    let most : m.n ≤ 32 = c.if-n-gt32.false in
-    let slots : length m.processes ≡ 32 = c.well_formed.1.1.1.0.1.0.1 in
-    let off = c.read_off-columns.ensures in
-    let records : shaped_records m.n m.filled m.processes ≡ true = sym off.good ∙ c.if-columns.true in
-    c.rows_good.ensures ∙ ap₂ (rows_good m.n m.filled m.values) off.low off.own
-    ∙ rows_shaped m most slots records ∙ sym (shaped_rest m c.if-n-lt1.false most records)
-
-pub returns : goal.returns
+pub returns-in-Some : goal.returns-in-Some
 unfolding shaped
-returns c =
-    rw (le-leb _ _ c.if-n-lt1.false, le-leb _ _ c.if-n-gt32.false, sym c.read_off-columns.ensures.good ∙ c.if-columns.false)
+returns-in-Some c =
+    let k = c.if-not-contains.ensures.cases in
+    let R = c.in-Some.ensures in
+    let most : c.args.m.now.n ≤ 32 = grind (arith, common_steps) in
+    let some : 1 ≤ c.args.m.now.n = grind (arith, common_steps) in
+    c.rows_good.ensures ∙ rows_shaped c.args.m.now c.in-Some.columns.low c.in-Some.columns.own R most ∙ sym (shaped_rest c.args.m.now some most R.records)

@@ -1,11 +1,10 @@
 -- What the shape test reads off the records before it looks at a register: for each process the lowest row that it has written, and its value.
-use Rattle.std.specs.Prelude.{ℕ, ◌+◌, ◌-◌, ◌*◌, ◌≤◌, ◌≡◌, Bool, cond, ◌&&◌, List, map, leb, eqb, get_or}
+use Rattle.std.specs.Prelude.{ℕ, ◌+◌, ◌-◌, ◌*◌, ◌≤◌, ◌<◌, ◌≡◌, Bool, cond, ◌&&◌, List, true, leb, eqb, get_or}
 use Rattle.sets.specs.Sets.{every, set_of, within}
 use Rattle.rules.specs.declared.Stage.{Stage}
 use Rattle.rules.specs.declared.Stage.TheVariants.{Absent, Running, Finished, Crashed}
-use Rattle.rules.specs.declared.Process.{Process}
-use Rattle.shape.specs.declared.Columns.{Columns}
-use Rattle.rules.specs.Stands.{row_in}
+use Rattle.rules.specs.declared.Machine.{Machine}
+use Rattle.rules.specs.Stands.{nobody, row_in}
 use Rattle.rules.specs.Shape.{shaped_records}
 
 -- the lowest row written by a process that has entered, at level x after k accesses there: 33 if there is none
@@ -18,15 +17,9 @@ lowest_row (Running x k f) = lowest_at x k
 lowest_row (Finished x w) = lowest_at x 1
 lowest_row (Crashed x k f) = lowest_at x k
 
--- no number of the list is above 33, as no lowest row is
+-- a list of 32 lowest rows: none of them is 0 or above 33
 abbrev pub LowestRows : List ℕ → Type 0
-LowestRows low = (k : ℕ) → get_or low k 0 ≤ 33
-
-abbrev pub lows_of : List Process → List ℕ
-lows_of ps = map (λ P. lowest_row P.stage) ps
-
-abbrev pub owns_of : List Process → List ℕ
-owns_of ps = map (λ P. P.value) ps
+LowestRows low = (k : ℕ) → k < 32 → (1 ≤ get_or low k 0) × (get_or low k 0 ≤ 33)
 
 -- what register i of a row must hold: i's value if the lowest row that i has written is x or below, else 0; a row above n is asked with x = 0
 abbrev pub wanted_at : List ℕ → List ℕ → ℕ → ℕ → ℕ
@@ -39,16 +32,15 @@ cell_good values base low own x i = eqb (get_or values (base + (i - 1)) 0) (want
 unfoldable pub cells_good : List ℕ → ℕ → List ℕ → List ℕ → ℕ → Bool
 cells_good values base low own x = every 32 (cell_good values base low own x)
 
--- bucket x of `buckets` holds those of the processes 1 to k whose lowest row is x
-pub record ByRow (low : List ℕ) (k : ℕ) (buckets : List ℕ) : Type 0 where
-  pub at : (x : ℕ) → x ≤ 33 → get_or buckets x 0 ≡ set_of (λ i. eqb (get_or low (i - 1) 0) x) k
+-- bucket x of `buckets` holds those of the processes 1 to k whose lowest row is x; that of process i is `low` at i - 1
+pub record ByRow (low : ℕ → ℕ) (k : ℕ) (buckets : List ℕ) : Type 0 where
+  pub at : (x : ℕ) → x ≤ 33 → get_or buckets x 0 ≡ set_of (λ i. eqb (low (i - 1)) x) k
 
--- C is what one pass over the records gives
-pub record ReadOff (n : ℕ) (filled : List ℕ) (ps : List Process) (C : Columns) : Type 0 where
-  pub low : C.low ≡ lows_of ps
-  pub own : C.own ≡ owns_of ps
-  pub by_row : ByRow (lows_of ps) 32 C.buckets
-  pub good : C.good ≡ shaped_records n filled ps
+-- every record of m stands as it may, and `lows` and `owns` are what one pass over them gives
+pub record ReadOff (m : Machine) (lows owns : List ℕ) : Type 0 where
+  pub records : shaped_records m.n m.filled m.processes ≡ true
+  pub low : (k : ℕ) → k < 32 → get_or lows k 0 ≡ lowest_row (get_or m.processes k nobody).stage
+  pub own : (k : ℕ) → k < 32 → get_or owns k 0 ≡ (get_or m.processes k nobody).value
 
 -- the processes that have written row x
 abbrev pub writers_of : List ℕ → ℕ → ℕ

@@ -1,9 +1,0 @@
--- `in_range` meets its contract by its tests.
-use borrow.Author.Tests.{le-leb, lt-leb}
-use Rattle.moves.proofs.in_range.Goals as goal
-
-pub returns-then-p-lt1 : goal.returns-then-p-lt1
-returns-then-p-lt1 c = rw (lt-leb _ _ c.if-p-lt1.true)
-
-pub returns : goal.returns
-returns c = rw (le-leb _ _ c.if-p-lt1.false)
