@@ -5,7 +5,7 @@
 
 ghost use Rattle.std.specs.Prelude.{◌<◌};
 
-use rules::{Answer, Called, Machine, Process, Sight, Stage, Standing};
+use rules::{Called, Machine, Process, Sight, Stage, Standing};
 use std::io;
 
 // One decimal digit; any other byte is 0.
@@ -17,43 +17,26 @@ fn digit(b: u8) -> u32
 
 // P8's state, which no run reaches: both at level 1, both written there, 1 has read register 1 and found it filled.
 fn crowded() -> Called {
-    let mut filled = [0; 32];
-    filled[0] = 3;
-    filled[1] = 3;
-    let mut values = [0; 1024];
-    values[0] = 7;
-    values[1] = 9;
-    values[32] = 7;
-    values[33] = 9;
-    let mut processes = [Process {
-        stage: Stage::Absent,
-        value: 0,
-    }; 32];
-    processes[0] = Process {
-        stage: Stage::Running {
-            level: 1,
-            made: 2,
-            found: 1,
-        },
-        value: 7,
-    };
-    processes[1] = Process {
-        stage: Stage::Running {
-            level: 1,
-            made: 1,
-            found: 0,
-        },
-        value: 9,
-    };
-    Called {
-        answer: Answer::Done,
-        machine: Machine {
-            n: 2,
-            filled,
-            values,
-            processes,
-        },
+    let mut called = machine::new(2);
+    let m = &mut called.machine;
+    for row in 0..2 {
+        m.filled[row] = 0b11;
+        m.values[32 * row] = 7;
+        m.values[32 * row + 1] = 9;
     }
+    m.processes[0] = running(2, 1, 7);
+    m.processes[1] = running(1, 0, 9);
+    called
+}
+
+// A process at level 1.
+fn running(made: u32, found: u32, value: u32) -> Process {
+    let stage = Stage::Running {
+        level: 1,
+        made,
+        found,
+    };
+    Process { stage, value }
 }
 
 // The call that a letter names; any other letter asks for P8's state.
