@@ -1,5 +1,4 @@
--- Laws of the view writer's stores, and that the contracts leave nothing open.
+-- Laws of the view writer's file, and that the contracts leave nothing open.
 pub mod Places
 pub mod Stored
-pub mod Writes
 pub mod Determined

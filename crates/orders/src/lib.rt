@@ -1,8 +1,8 @@
 // The replay of an order file and the writer of a view file (document 01, "Files"), over the machine's calls.
 #![tactic(auto)]
 
-ghost use Rattle.std.specs.Prelude.{◌≡◌, true, ◌+◌, ◌*◌, ◌≤◌, eqb, length};
-ghost use Rattle.sets.specs.Members.{size};
+ghost use Rattle.std.specs.Prelude.{◌≡◌, true, ◌≤◌, eqb, length};
+ghost use Rattle.rules.specs.Stands.{cell_in};
 ghost use Rattle.rules.specs.Shape.{shaped};
 ghost use Rattle.rules.specs.Calls.{number_of, fresh};
 ghost use Rattle.formats.specs.Records.{word_bytes};
@@ -10,9 +10,9 @@ ghost use Rattle.text.specs.Parts.{joined};
 ghost use Rattle.replays.specs.Replays.{replayed, orders_from, replay_of};
 ghost use Rattle.replays.specs.Coded.Turns.{none, counted, ends, CountsFit};
 ghost use Rattle.replays.specs.Writes.{write_of, buffer_of};
-ghost use Rattle.orders.specs.Coded.Places.{HasRow, record_length, member_bytes, record_bytes, stage_bytes, machine_bytes};
-ghost use Rattle.text.specs.Stores.{put};
+ghost use Rattle.orders.specs.Coded.Places.{member_bytes, record_bytes, machine_bytes};
 
+use arrayvec::ArrayVec;
 use formats::{FileAnswer, Header, Order};
 use replays::{Counts, Replayed, WriteAnswer, Written};
 use rules::{Answer, Machine, Stage};
@@ -140,114 +140,72 @@ pub fn replay(s: &[u8], budget: u32) -> Replayed
     }
 }
 
-// The bytes of a process's record in a view file: none unless it has finished.
-fn record_len(stage: Stage) -> usize
-    ensures { result ≡ record_length stage }
+// The bytes of a full view's values, of its record, and of a file of 32 such records.
+const VALUES: usize = 4 * 32;
+
+const RECORD: usize = 7 + VALUES;
+
+const FILE: usize = 3 + 32 * RECORD;
+
+// The value that stands for a process in the row of a level.
+fn cell(values: &[u32; 1024], level: u32, member: u32) -> u32
+    ensures { result ≡ cell_in values.now level member }
 {
-    match stage {
-        Stage::Finished { level: _, view } => 7 + 4 * (sets::size(view) as usize),
-        _ => 0,
-    }
+    let at = 32 * (level.saturating_sub(1) as usize) + member.saturating_sub(1) as usize;
+    values.get(at).copied().unwrap_or(0)
 }
 
-// The length of the view file of a machine.
-fn file_len(m: Machine) -> usize
-    ensures { result ≡ length (machine_bytes m) }
+// The values of a view, out of the row of its level, ascending.
+#[tactic(auto, using(crate::proofs::Places::parts))]
+fn values_of(values: &[u32; 1024], level: u32, view: u32) -> ArrayVec<u8, VALUES>
+    ensures { result.items ≡ joined 1 32 (member_bytes values.now level view) }
 {
-    let mut sum: usize = 3;
-    let mut i: usize = 0;
-    while i < 32 {
-        let process = m.processes[i];
-        let stage = process.stage;
-        sum += record_len(stage);
-        i += 1;
-    }
-    sum
-}
-
-// A number's four bytes, stored at a place.
-fn put_number(buffer: &mut [u8], at: usize, x: u32)
-    requires { at + 4 ≤ length buffer.old }
-    ensures { buffer.new ≡ put buffer.old at (word_bytes x) }
-{
-    buffer[at] = (x % 256) as u8;
-    buffer[at + 1] = (x / 256 % 256) as u8;
-    buffer[at + 2] = (x / 65536 % 256) as u8;
-    buffer[at + 3] = (x / 16777216 % 256) as u8;
-}
-
-// The values of a view, out of the row of its level, ascending; answers the place after them.
-fn put_values(buffer: &mut [u8], at: usize, values: &[u32; 1024], level: u32, view: u32) -> usize
-    requires { (at + 4 * size view ≤ length buffer.old) × (1 ≤ level) × (level ≤ 32) }
-    ensures value { result ≡ at + 4 * size view }
-    ensures buffer_after { buffer.new ≡ put buffer.old at (joined 1 32 (member_bytes values.now level view)) }
-{
-    let row = 32 * (level - 1);
-    let mut place = at;
-    let mut member: u32 = 0;
-    while member < 32 {
-        let k = (row + member) as usize;
-        member += 1;
+    let mut bytes = ArrayVec::new();
+    for member in 1..=32 {
         if sets::has(view, member) {
-            put_number(buffer, place, values[k]);
-            place += 4;
+            let value = cell(values, level, member);
+            bytes.try_extend_from_slice(&value.to_le_bytes()).unwrap();
         }
     }
-    place
+    bytes
 }
 
-// The record of process p, which finished at a level with a view; answers the place after it.
-fn put_view(
-    buffer: &mut [u8],
-    at: usize,
-    values: &[u32; 1024],
-    p: u32,
-    level: u32,
-    view: u32,
-) -> usize
-    requires { (at + (7 + 4 * size view) ≤ length buffer.old) × (1 ≤ level) × (level ≤ 32) × (p ≤ 32) }
-    ensures value { result ≡ at + (7 + 4 * size view) }
-    ensures buffer_after { buffer.new ≡ put buffer.old at (record_bytes values.now p level view) }
+// The record of process p, which finished at a level with a view.
+#[tactic(auto, unfolding(crate::specs::Coded::Places::record_bytes))]
+fn record_of(values: &[u32; 1024], p: u8, level: u32, view: u32) -> ArrayVec<u8, RECORD>
+    ensures { result.items ≡ record_bytes values.now p level view }
 {
-    buffer[at] = 86;
-    buffer[at + 1] = 87;
-    buffer[at + 2] = p as u8;
-    put_number(buffer, at + 3, view);
-    put_values(buffer, at + 7, values, level, view)
+    let mut bytes = ArrayVec::new();
+    bytes.try_extend_from_slice(&[b'V', b'W', p]).unwrap();
+    bytes.try_extend_from_slice(&view.to_le_bytes()).unwrap();
+    bytes
+        .try_extend_from_slice(&values_of(values, level, view))
+        .unwrap();
+    bytes
 }
 
-// The record of process p, which has none unless it has finished; answers the place after it.
-fn put_process(buffer: &mut [u8], at: usize, values: &[u32; 1024], p: u32, stage: Stage) -> usize
-    requires { (at + record_length stage ≤ length buffer.old) × HasRow stage × (p ≤ 32) }
-    ensures value { result ≡ at + record_length stage }
-    ensures buffer_after { buffer.new ≡ put buffer.old at (stage_bytes values.now p stage) }
+// The view file of a machine: `MN`, then the finished processes in ascending order.
+#[tactic(auto, using(crate::proofs::Places::parts), unfolding(crate::specs::Coded::Places::machine_bytes))]
+fn file_of(m: &Machine) -> ArrayVec<u8, FILE>
+    requires { m.now.n ≤ 32 }
+    ensures { result.items ≡ machine_bytes m.now }
 {
-    match stage {
-        Stage::Finished { level, view } => put_view(buffer, at, values, p, level, view),
-        _ => at,
+    let mut bytes = ArrayVec::new();
+    bytes
+        .try_extend_from_slice(&[b'M', b'N', m.n as u8])
+        .unwrap();
+    for p in 1..=32 {
+        if let Stage::Finished { level, view } = m.processes[p as usize - 1].stage {
+            bytes
+                .try_extend_from_slice(&record_of(&m.values, p, level, view))
+                .unwrap();
+        }
     }
+    bytes
 }
 
-// The header and the records of the finished processes, ascending.
-fn put_views(buffer: &mut [u8], m: Machine)
-    requires { (length (machine_bytes m) ≤ length buffer.old) × (shaped m ≡ true) }
-    ensures { buffer.new ≡ put buffer.old 0 (machine_bytes m) }
-{
-    let n = m.n;
-    buffer[0] = 77;
-    buffer[1] = 78;
-    buffer[2] = n as u8;
-    let mut at: usize = 3;
-    let mut i: usize = 0;
-    while i < 32 {
-        let process = m.processes[i];
-        let stage = process.stage;
-        at = put_process(buffer, at, &m.values, (i + 1) as u32, stage);
-        i += 1;
-    }
-}
-
-// The view writer: `MN`, then the finished processes in ascending order; refuses 1 and 17, and then writes nothing.
+// The view writer: refuses 1 and 17, and then writes nothing.
+#[tactic(auto, using(crate::proofs::Stored::stored), unfolding(replays::specs::Writes::write_of, replays::specs::Writes::buffer_of))]
 pub fn write_views(m: Machine, buffer: &mut [u8]) -> Written
     ensures value { result ≡ write_of m (length buffer.old) }
     ensures buffer_after { buffer.new ≡ buffer_of m buffer.old }
@@ -258,14 +216,15 @@ pub fn write_views(m: Machine, buffer: &mut [u8]) -> Written
             bytes: 0,
         };
     }
-    let bytes = file_len(m);
+    let file = file_of(&m);
+    let bytes = file.len();
     if buffer.len() < bytes {
         return Written {
             answer: WriteAnswer::TooShort,
             bytes: 0,
         };
     }
-    put_views(buffer, m);
+    buffer[..bytes].copy_from_slice(&file);
     Written {
         answer: WriteAnswer::Done,
         bytes,

@@ -1,6 +1,6 @@
 -- A view file read off the machine, as the view writer stores it.
-use Rattle.std.specs.Prelude.{ℕ, ◌+◌, ◌*◌, ◌≤◌, cond, List, [], ◌∷◌, ◌++◌}
-use Rattle.sets.specs.Members.{has, size}
+use Rattle.std.specs.Prelude.{ℕ, cond, List, [], ◌∷◌, ◌++◌}
+use Rattle.sets.specs.Members.{has}
 use Rattle.rules.specs.declared.Stage.{Stage}
 use Rattle.rules.specs.declared.Stage.TheVariants.{Absent, Running, Finished, Crashed}
 use Rattle.rules.specs.declared.Machine.{Machine}
@@ -29,17 +29,3 @@ part_of m i = stage_bytes m.values i (stage_of m i)
 
 unfoldable pub machine_bytes : Machine → List ℕ
 machine_bytes m = ascii "MN" ++ m.n ∷ joined 1 32 (part_of m)
-
--- how many bytes a record has
-abbrev pub record_length : Stage → ℕ
-record_length Absent = 0
-record_length (Running x k f) = 0
-record_length (Finished x w) = 7 + 4 * size w
-record_length (Crashed x k f) = 0
-
--- the level of a finished process is that of a row
-abbrev pub HasRow : Stage → Type 0
-HasRow Absent = Unit {0}
-HasRow (Running x k f) = Unit {0}
-HasRow (Finished x w) = (1 ≤ x) × (x ≤ 32)
-HasRow (Crashed x k f) = Unit {0}
