@@ -1,25 +1,26 @@
 -- Replaying order by order: what one turn does to what is left to replay.
 use Prim.Native.Nat.{ℕ, zero, suc, ◌+◌, ◌-◌, ◌≤◌, ◌<◌}
 use mathlib.Core.Bool.{Bool, true, false, not, ◌&&◌, cond}
-use mathlib.Core.Path.{◌≡◌, refl, sym, ap, ◌∙◌}
+use mathlib.Core.Path.{◌≡◌, refl, sym, ap, ◌∙◌, subst}
 use mathlib.Core.List.{List}
 use native.Mathlib.Omega.{arith}
 use lib.Dec.{eqb}
 use lib.ListN.{length}
 use borrow.Author.Tests.{leb-true, le-leb, lt-leb}
+use Rattle.std.specs.Prelude.{Some, None, Ok, Err}
 use Rattle.sets.specs.Members.{tick}
 use Rattle.rules.specs.declared.Machine.{Machine}
 use Rattle.rules.specs.Calls.{accepted}
-use Rattle.history.specs.Runs.{Call, enters, steps, crashes, answer, from, tally, is_step, accepted_step, is_refused}
+use Rattle.history.specs.Runs.{Call, answer, from, tally, is_step, accepted_step, is_refused}
 use Rattle.formats.specs.declared.FileAnswer.{FileAnswer}
 use Rattle.formats.specs.declared.FileAnswer.TheVariants.{Whole, BudgetSpent, BodyCut}
 use Rattle.formats.specs.declared.Mark.{Mark}
 use Rattle.formats.specs.declared.Order.{Order}
 use Rattle.formats.specs.Numbers.{place_of}
-use Rattle.formats.specs.Records.{byte_at, word_at, fits, mark_of, mark_at, order_by, order_at}
+use Rattle.formats.specs.Records.{byte_at, fits, mark_of, mark_at, order_by, order_at, Found}
 use Rattle.replays.specs.declared.Counts.{Counts}
 use Rattle.replays.specs.declared.Replayed.{Replayed}
-use Rattle.replays.specs.Replays.{Orders, ended, then, order_then, orders_from, replayed}
+use Rattle.replays.specs.Replays.{Orders, call_of, width, ended, then, order_then, orders_from, replayed}
 use Rattle.replays.specs.Coded.Turns.{took, ends, resumed}
 use Rattle.world.specs.Calls.{counts, leaves}
 
@@ -54,39 +55,36 @@ pub resumed-ended : (s : List ℕ) (r : Counts) (m : Machine) (a : FileAnswer) (
 unfolding counts leaves
 resumed-ended s r m a at = alike a (place_of a at (length s)) m (omega arith) (omega arith) (omega arith)
 
--- how many bytes an order has
-abbrev pub width : Order → ℕ
-width Order.End = 0
-width (Order.Fault a) = 0
-width (Order.Enter p v) = 7
-width (Order.Step p) = 3
-width (Order.Crash p) = 3
+-- An order that is read is whole.
+abbrev IsWhole : List ℕ → ℕ → Found Order → Type 0
+IsWhole s at (Ok None) = Unit {0}
+IsWhole s at (Err a) = Unit {0}
+IsWhole s at (Ok (Some o)) = at + width o ≤ length s
 
--- an order that is read is whole
-whole_if : (s : List ℕ) (at body : ℕ) (o : Order) (b : Bool) → fits s at body ≡ b → at ≤ length s → width o ≤ 2 + body
-    → at + width (cond b o (Order.Fault BodyCut)) ≤ length s
-whole_if s at body o true e h w = omega (arith, leb-true (at + 2 + body) (length s) e)
-whole_if s at body o false e h w = omega arith
+whole_if : (s : List ℕ) (at body : ℕ) (o : Order) (b : Bool) → fits s at body ≡ b → width o ≡ 2 + body
+    → IsWhole s at (cond b (Ok (Some o)) (Err BodyCut))
+whole_if s at body o true e w = omega (arith, leb-true (at + 2 + body) (length s) e)
+whole_if s at body o false e w = tt
 
-whole_by : (s : List ℕ) (at : ℕ) → at ≤ length s → (m : Mark) → at + width (order_by s at m) ≤ length s
-whole_by s at h Mark.End = omega arith
-whole_by s at h Mark.Cut = omega arith
-whole_by s at h Mark.Header = omega arith
-whole_by s at h Mark.Enter = whole_if s at 5 (Order.Enter (byte_at s (at + 2)) (word_at s (at + 3))) (fits s at 5) refl h (omega arith)
-whole_by s at h Mark.Step = whole_if s at 1 (Order.Step (byte_at s (at + 2))) (fits s at 1) refl h (omega arith)
-whole_by s at h Mark.Crash = whole_if s at 1 (Order.Crash (byte_at s (at + 2))) (fits s at 1) refl h (omega arith)
-whole_by s at h Mark.View = omega arith
-whole_by s at h Mark.Other = omega arith
+whole_by : (s : List ℕ) (at : ℕ) (m : Mark) → IsWhole s at (order_by s at m)
+whole_by s at Mark.End = tt
+whole_by s at Mark.Cut = tt
+whole_by s at Mark.Header = tt
+whole_by s at Mark.Enter = whole_if s at 5 _ (fits s at 5) refl refl
+whole_by s at Mark.Step = whole_if s at 1 _ (fits s at 1) refl refl
+whole_by s at Mark.Crash = whole_if s at 1 _ (fits s at 1) refl refl
+whole_by s at Mark.View = tt
+whole_by s at Mark.Other = tt
 
-pub whole_order : (s : List ℕ) (at : ℕ) (o : Order) → at ≤ length s → order_at s at ≡ o → at + width o ≤ length s
+pub whole_order : (s : List ℕ) (at : ℕ) (o : Order) → order_at s at ≡ Ok (Some o) → at + width o ≤ length s
 unfolding order_at
-whole_order s at o h e = omega (arith, whole_by s at h (mark_at s at), ap width e)
+whole_order s at o e = subst (IsWhole s at) e (whole_by s at (mark_at s at))
 
 -- at the end nothing is left
 abbrev mark_if_lem : List ℕ → ℕ → Mark
 mark_if_lem s at = cond (eqb (length s) (at + 1)) Mark.Cut (mark_of (byte_at s at) (byte_at s (at + 1)))
 
-pub order_end : (s : List ℕ) (at : ℕ) → length s ≤ at → order_at s at ≡ Order.End
+pub order_end : (s : List ℕ) (at : ℕ) → length s ≤ at → order_at s at ≡ Ok None
 unfolding order_at mark_at
 order_end s at h = ap (λ (b : Bool). order_by s at (cond b Mark.End (mark_if_lem s at))) (le-leb (length s) at h)
 
@@ -94,7 +92,7 @@ order_end s at h = ap (λ (b : Bool). order_by s at (cond b Mark.End (mark_if_le
 pub from_end : (k : ℕ) (s : List ℕ) (at : ℕ) → length s ≤ at → orders_from k s at ≡ ended Whole (length s)
 unfolding orders_from
 from_end zero s at h = ap (λ (b : Bool). cond b (ended Whole (length s)) (ended BudgetSpent at)) (le-leb (length s) at h)
-from_end (suc k) s at h = ap (λ (o : Order). order_then s at o (orders_from k s)) (order_end s at h)
+from_end (suc k) s at h = ap (λ (o : Found Order). order_then s at o (orders_from k s)) (order_end s at h)
 
 pub from_spent : (k : ℕ) (s : List ℕ) (at : ℕ) → k ≡ 0 → at < length s → orders_from k s at ≡ ended BudgetSpent at
 unfolding orders_from
@@ -102,9 +100,9 @@ from_spent k s at e h =
     ap (λ (j : ℕ). orders_from j s at) e
     ∙ ap (λ (b : Bool). cond b (ended Whole (length s)) (ended BudgetSpent at)) (lt-leb (length s) at h)
 
-pub from_order : (k j : ℕ) (s : List ℕ) (at : ℕ) (o : Order) → k ≡ suc j → order_at s at ≡ o → orders_from k s at ≡ order_then s at o (orders_from j s)
+pub from_order : (k j : ℕ) (s : List ℕ) (at : ℕ) (o : Found Order) → k ≡ suc j → order_at s at ≡ o → orders_from k s at ≡ order_then s at o (orders_from j s)
 unfolding orders_from
-from_order k j s at o e f = ap (λ (i : ℕ). orders_from i s at) e ∙ ap (λ (x : Order). order_then s at x (orders_from j s)) f
+from_order k j s at o e f = ap (λ (i : ℕ). orders_from i s at) e ∙ ap (λ (x : Found Order). order_then s at x (orders_from j s)) f
 
 -- no count passes the orders taken
 ticked : (b : Bool) → tick b ≤ 1
@@ -138,32 +136,22 @@ module _ (s : List ℕ) (n budget : ℕ) (r : Counts) (m : Machine) (at : ℕ) (
   over_spent e h = over BudgetSpent at (from_spent (budget - r.taken) s at (omega arith) h)
 
   module _ (more : r.taken < budget) where
-    turn : (o : Order) → order_at s at ≡ o → orders_from (budget - r.taken) s at ≡ order_then s at o (orders_from (budget - (r.taken + 1)) s)
+    turn : (o : Found Order) → order_at s at ≡ o → orders_from (budget - r.taken) s at ≡ order_then s at o (orders_from (budget - (r.taken + 1)) s)
     turn o e = from_order (budget - r.taken) (budget - (r.taken + 1)) s at o (omega arith) e
 
-    pub over_none : order_at s at ≡ Order.End → ends s Whole (length s) r m ≡ replayed s n (orders_from budget s 3)
-    over_none e = over Whole (length s) (turn Order.End e)
+    pub over_none : order_at s at ≡ Ok None → ends s Whole (length s) r m ≡ replayed s n (orders_from budget s 3)
+    over_none e = over Whole (length s) (turn (Ok None) e)
 
-    pub over_fault : (a : FileAnswer) → order_at s at ≡ Order.Fault a → ends s a at r m ≡ replayed s n (orders_from budget s 3)
-    over_fault a e = over a at (turn (Order.Fault a) e)
+    pub over_fault : (a : FileAnswer) → order_at s at ≡ Err a → ends s a at r m ≡ replayed s n (orders_from budget s 3)
+    over_fault a e = over a at (turn (Err a) e)
 
-    one_more : (c : Call) (o : Order) → order_at s at ≡ o
-        → order_then s at o (orders_from (budget - (r.taken + 1)) s) ≡ then c (orders_from (budget - (r.taken + 1)) s (at + width o))
-        → Going s n budget (took r m c) (answer m c).machine (at + width o)
-    one_more c o e f =
+    pub going_order : (o : Order) → order_at s at ≡ Ok (Some o) → Going s n budget (took r m (call_of o)) (answer m (call_of o)).machine (at + width o)
+    going_order o e =
+        let c = call_of o in
         record {
-          inside = whole_order s at o g.inside e;
+          inside = whole_order s at o e;
           taken = omega arith;
           accesses = count_fits (accepted (answer m c)) (tick (is_step c)) r.accesses r.taken (ticked (is_step c)) g.accesses;
           refused = refusals (accepted (answer m c)) r.refused r.taken g.refused;
-          left = sym (resumed-took s r m c (orders_from (budget - (r.taken + 1)) s (at + width o))) ∙ ap (resumed s r m) (sym (turn o e ∙ f)) ∙ g.left;
+          left = sym (resumed-took s r m c (orders_from (budget - (r.taken + 1)) s (at + width o))) ∙ ap (resumed s r m) (sym (turn (Ok (Some o)) e)) ∙ g.left;
         }
-
-    pub going_enter : (p v : ℕ) → order_at s at ≡ Order.Enter p v → Going s n budget (took r m (enters p v)) (answer m (enters p v)).machine (at + 7)
-    going_enter p v e = one_more (enters p v) (Order.Enter p v) e refl
-
-    pub going_step : (p : ℕ) → order_at s at ≡ Order.Step p → Going s n budget (took r m (steps p)) (answer m (steps p)).machine (at + 3)
-    going_step p e = one_more (steps p) (Order.Step p) e refl
-
-    pub going_crash : (p : ℕ) → order_at s at ≡ Order.Crash p → Going s n budget (took r m (crashes p)) (answer m (crashes p)).machine (at + 3)
-    going_crash p e = one_more (crashes p) (Order.Crash p) e refl
