@@ -18,7 +18,7 @@ use Rattle.formats.specs.Records.{byte_at, fits, mark_at, header_by, header_of, 
 use Rattle.formats.proofs.Reading.{opened}
 use Rattle.replays.specs.declared.Replayed.{Replayed}
 use Rattle.replays.specs.Replays.{Orders, call_of, width, ended, then, order_then, orders_from, replay_by, replay_of}
-use Rattle.replays.proofs.Turns.{whole_order}
+use Rattle.replays.proofs.Turns.{wide, whole_order}
 use Rattle.text.specs.Ascii.{ascii}
 use Rattle.text.specs.Decimal.{digits_in, decimal, Digits}
 use Rattle.text.specs.Parts.{joined}
@@ -80,11 +80,6 @@ unfolding orders_from
 read_from_lem zero s at h = read_none (leb (length s) at) s at refl h
 read_from_lem (suc k) s at h = go (order_at s at) refl (read_from_lem k s)
   where
-    wide : (o : Order) → 3 ≤ width o
-    wide (Order.Enter p v) = omega arith
-    wide (Order.Step p) = omega arith
-    wide (Order.Crash p) = omega arith
-
     later : (o : Order) {x : Orders} → Read k s (at + width o) x → Read (suc k) s at (then (call_of o) x)
     later o r = record { few = omega (arith, wide o, r.few); answer = λ l. r.answer (omega (arith, wide o)) }
 

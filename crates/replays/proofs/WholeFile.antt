@@ -23,7 +23,7 @@ use Rattle.formats.proofs.Reading.{opened}
 use Rattle.formats.proofs.Table.{fault_number, header_number, header_refused}
 use Rattle.replays.specs.Replays.{Orders, call_of, width, ended, then, order_then, orders_from, replay_by, replay_of, calls_by, calls_of}
 use Rattle.replays.specs.Table.{order_lines, Holds, start, enter, step, crash, HoldsOne, Refusal, RefusedExactly, WholeExactly, WholePlace}
-use Rattle.replays.proofs.Turns.{whole_order, order_end, from_end, from_spent, from_order}
+use Rattle.replays.proofs.Turns.{wide, whole_order, order_end, from_end, from_spent, from_order}
 use Rattle.replays.proofs.Orders.{Told, order_number, enter_stands, step_stands, crash_stands, told}
 
 -- calls made before others
@@ -89,11 +89,6 @@ held_by : {s : List ℕ} {at : ℕ} {cs : List Call} → Holds s at cs → (o : 
 held_by {s} {at} {cs} h (Order.Enter p v) t = subst₂ (λ (q w : ℕ). Holds s (at + 7) (cs ++ enters q w ∷ [])) t.1 t.2 (enter h t.0)
 held_by {s} {at} {cs} h (Order.Step p) t = subst (λ (q : ℕ). Holds s (at + 3) (cs ++ steps q ∷ [])) t.1 (step h t.0)
 held_by {s} {at} {cs} h (Order.Crash p) t = subst (λ (q : ℕ). Holds s (at + 3) (cs ++ crashes q ∷ [])) t.1 (crash h t.0)
-
-wide : (o : Order) → 1 ≤ width o
-wide (Order.Enter p v) = omega arith
-wide (Order.Step p) = omega arith
-wide (Order.Crash p) = omega arith
 
 held_order : (s : List ℕ) (at : ℕ) (cs : List Call) → Holds s at cs → (o : Order) → order_at s at ≡ Ok (Some o) → Holds s (at + width o) (cs ++ call_of o ∷ [])
 held_order s at cs h o e = held_by h o (told s at (Ok (Some o)) (omega (arith, wide o, whole_order s at o e)) e)
