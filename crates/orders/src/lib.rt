@@ -4,46 +4,52 @@
 ghost use Rattle.std.specs.Prelude.{◌≡◌, true, ◌≤◌, eqb, length};
 ghost use Rattle.rules.specs.Stands.{cell_in};
 ghost use Rattle.rules.specs.Shape.{shaped};
-ghost use Rattle.rules.specs.Calls.{number_of, fresh};
+ghost use Rattle.rules.specs.Calls.{fresh};
+ghost use Rattle.history.specs.Runs.{answer};
 ghost use Rattle.formats.specs.Records.{word_bytes};
 ghost use Rattle.text.specs.Parts.{joined};
-ghost use Rattle.replays.specs.Replays.{replayed, orders_from, replay_of};
-ghost use Rattle.replays.specs.Coded.Turns.{none, counted, ends, CountsFit};
+ghost use Rattle.replays.specs.Replays.{call_of, width, replayed, orders_from, replay_of};
+ghost use Rattle.replays.specs.Coded.Turns.{none, counted, next_order, ends, CountsFit};
 ghost use Rattle.replays.specs.Writes.{write_of, buffer_of};
 ghost use Rattle.orders.specs.Coded.Places.{member_bytes, record_bytes, machine_bytes};
 
 use arrayvec::ArrayVec;
-use formats::{FileAnswer, Header, Order};
+use formats::{FileAnswer, Order};
 use replays::{Counts, Replayed, WriteAnswer, Written};
-use rules::{Answer, Machine, Stage};
+use rules::{Answer, Called, Machine, Stage};
 
-// The machine has done what was asked.
-fn accepted(a: Answer) -> bool
-    ensures { result ≡ eqb (number_of a) 0 }
+// The call that an order asks for, made on the machine.
+fn obey(m: Machine, order: Order) -> Called
+    ensures { result ≡ answer m (call_of order) }
 {
-    match a {
-        Answer::Done => true,
-        _ => false,
+    match order {
+        Order::Enter { process, value } => machine::enter(m, process, value),
+        Order::Step { process } => machine::step(m, process),
+        Order::Crash { process } => machine::crash(m, process),
     }
 }
 
-// One order more, which the machine has answered; `step` is 1 for a step and 0 otherwise.
-fn counted(counts: Counts, a: Answer, step: u32) -> Counts
-    requires { CountsFit counts × (step ≤ 1) }
-    ensures { result ≡ counted counts a step }
+// How many bytes the record of an order has.
+fn width(order: Order) -> usize
+    ensures { result ≡ width order }
 {
-    if accepted(a) {
-        Counts {
-            taken: counts.taken + 1,
-            accesses: counts.accesses + step,
-            refused: counts.refused,
-        }
-    } else {
-        Counts {
-            taken: counts.taken + 1,
-            accesses: counts.accesses,
-            refused: counts.refused + 1,
-        }
+    match order {
+        Order::Enter { .. } => 7,
+        Order::Step { .. } | Order::Crash { .. } => 3,
+    }
+}
+
+// One order more, which the machine has answered.
+fn counted(counts: Counts, order: Order, a: Answer) -> Counts
+    requires { CountsFit counts }
+    ensures { result ≡ counted counts (call_of order) a }
+{
+    let accepted = a == Answer::Done;
+    let stepped = accepted && matches!(order, Order::Step { .. });
+    Counts {
+        taken: counts.taken + 1,
+        accesses: counts.accesses + u32::from(stepped),
+        refused: counts.refused + u32::from(!accepted),
     }
 }
 
@@ -63,18 +69,29 @@ fn fresh(n: u32) -> Machine
     requires { (1 ≤ n) × (n ≤ 32) }
     ensures { result ≡ fresh n }
 {
-    let made = machine::new(n);
-    made.machine
+    machine::new(n).machine
+}
+
+// What is next at a place: if bytes are left and the budget is spent, 13 before any look at the record.
+fn next_order(s: &[u8], at: usize, spent: bool) -> Result<Option<Order>, FileAnswer>
+    ensures { result ≡ next_order s.now at spent }
+{
+    if !spent {
+        files::order_at(s, at)
+    } else if at < s.len() {
+        Err(FileAnswer::BudgetSpent)
+    } else {
+        Ok(None)
+    }
 }
 
 // Where the replay of a file ends.
 fn ends(s: &[u8], a: FileAnswer, at: usize, counts: Counts, m: Machine) -> Replayed
     ensures { result ≡ ends s.now a at counts m }
 {
-    let place = files::place_of(a, at, s.len());
     Replayed {
         answer: a,
-        place,
+        place: files::place_of(a, at, s.len()),
         taken: counts.taken,
         accesses: counts.accesses,
         refused: counts.refused,
@@ -89,54 +106,29 @@ fn replay_orders(s: &[u8], n: u32, budget: u32) -> Replayed
 {
     let mut m = fresh(n);
     let mut counts = none();
-    let mut at: usize = 3;
+    let mut at = 3;
     loop {
-        if s.len() <= at {
-            return ends(s, FileAnswer::Whole, s.len(), counts, m);
-        }
-        let taken = counts.taken;
-        if taken == budget {
-            return ends(s, FileAnswer::BudgetSpent, at, counts, m);
-        }
-        match files::order_at(s, at) {
-            Order::End => {
-                return ends(s, FileAnswer::Whole, s.len(), counts, m);
-            }
-            Order::Fault(a) => {
-                return ends(s, a, at, counts, m);
-            }
-            Order::Enter { process, value } => {
-                let called = machine::enter(m, process, value);
-                let a = called.answer;
-                counts = counted(counts, a, 0);
+        match next_order(s, at, counts.taken == budget) {
+            Ok(Some(order)) => {
+                let called = obey(m, order);
+                counts = counted(counts, order, called.answer);
                 m = called.machine;
-                at += 7;
+                at += width(order);
             }
-            Order::Step { process } => {
-                let called = machine::step(m, process);
-                let a = called.answer;
-                counts = counted(counts, a, 1);
-                m = called.machine;
-                at += 3;
-            }
-            Order::Crash { process } => {
-                let called = machine::crash(m, process);
-                let a = called.answer;
-                counts = counted(counts, a, 0);
-                m = called.machine;
-                at += 3;
-            }
+            Ok(None) => return ends(s, FileAnswer::Whole, s.len(), counts, m),
+            Err(a) => return ends(s, a, at, counts, m),
         }
     }
 }
 
 // The replay of an order file over a fresh machine, with a budget of orders.
+#[tactic(auto, using(formats::proofs::Reading::opened), unfolding(replays::specs::Replays::replay_of))]
 pub fn replay(s: &[u8], budget: u32) -> Replayed
     ensures { result ≡ replay_of s.now budget }
 {
     match files::header_of(s) {
-        Header::Of(n) => replay_orders(s, n, budget),
-        Header::Fault(a) => { ends(s, a, 0, none(), fresh(1)) }
+        Ok(n) => replay_orders(s, n, budget),
+        Err(a) => ends(s, a, 0, none(), fresh(1)),
     }
 }
 
@@ -210,7 +202,7 @@ pub fn write_views(m: Machine, buffer: &mut [u8]) -> Written
     ensures value { result ≡ write_of m (length buffer.old) }
     ensures buffer_after { buffer.new ≡ buffer_of m buffer.old }
 {
-    if !shape::shaped(m.n, &m.filled, &m.values, m.processes) {
+    if !shape::shaped(&m) {
         return Written {
             answer: WriteAnswer::NotShaped,
             bytes: 0,

@@ -8,17 +8,17 @@ use native.Mathlib.Omega.{arith}
 use lib.Dec.{leb, lit≤}
 use lib.ListN.{length, get_or, drop}
 use borrow.Author.Tests.{leb-true, leb-false}
-use Rattle.formats.specs.declared.FileAnswer.TheVariants.{Whole, OutOfRange, BodyCut, BudgetSpent}
+use Rattle.std.specs.Prelude.{Some, None, Result, Ok, Err}
+use Rattle.formats.specs.declared.FileAnswer.{FileAnswer}
+use Rattle.formats.specs.declared.FileAnswer.TheVariants.{Whole, BudgetSpent}
 use Rattle.formats.specs.declared.Mark.{Mark}
-use Rattle.formats.specs.declared.Header.{Header}
 use Rattle.formats.specs.declared.Order.{Order}
 use Rattle.formats.specs.Numbers.{file_number}
-use Rattle.formats.specs.Records.{byte_at, fits, mark_at, header_by, header_of, order_by, order_at}
+use Rattle.formats.specs.Records.{byte_at, fits, mark_at, header_by, header_of, order_by, order_at, Found}
 use Rattle.formats.proofs.Reading.{opened}
-use Rattle.history.specs.Runs.{Call}
 use Rattle.replays.specs.declared.Replayed.{Replayed}
-use Rattle.replays.specs.Replays.{Orders, ended, then, order_then, orders_from, replay_by, replay_of}
-use Rattle.replays.proofs.Turns.{width, whole_order}
+use Rattle.replays.specs.Replays.{Orders, call_of, width, ended, then, order_then, orders_from, replay_by, replay_of}
+use Rattle.replays.proofs.Turns.{wide, whole_order}
 use Rattle.text.specs.Ascii.{ascii}
 use Rattle.text.specs.Decimal.{digits_in, decimal, Digits}
 use Rattle.text.specs.Parts.{joined}
@@ -27,52 +27,41 @@ use Rattle.output.specs.Lines.{fields, process_line, run_line, last_line, replay
 use Rattle.output.specs.Promises.{FewOrders, NeverThirteen}
 use Rattle.output.proofs.ByLength.{replay_short, replay_long}
 
--- no record is answered with 13
-abbrev Fine : Order → Type 0
-Fine Order.End = Unit {0}
-Fine (Order.Fault a) = file_number a ≢ 13
-Fine (Order.Enter p v) = Unit {0}
-Fine (Order.Step p) = Unit {0}
-Fine (Order.Crash p) = Unit {0}
+-- nothing that is read is answered with 13
+abbrev Fine : {T : Type 0} → Result T FileAnswer → Type 0
+Fine (Ok x) = Unit {0}
+Fine (Err a) = file_number a ≢ 13
 
-fine_if : (t : Bool) (o : Order) → Fine o → Fine (cond t o (Order.Fault BodyCut))
-fine_if true o h = h
-fine_if false o h = λ e. omega arith
+fine_if : {T : Type 0} (t : Bool) (r q : Result T FileAnswer) → Fine r → Fine q → Fine (cond t r q)
+fine_if true r q h k = h
+fine_if false r q h k = k
 
 fine_by : (s : List ℕ) (at : ℕ) (k : Mark) → Fine (order_by s at k)
 fine_by s at Mark.End = tt
 fine_by s at Mark.Cut = λ e. omega arith
 fine_by s at Mark.Header = λ e. omega arith
-fine_by s at Mark.Enter = fine_if (fits s at 5) _ tt
-fine_by s at Mark.Step = fine_if (fits s at 1) _ tt
-fine_by s at Mark.Crash = fine_if (fits s at 1) _ tt
+fine_by s at Mark.Enter = fine_if (fits s at 5) _ _ tt (λ e. omega arith)
+fine_by s at Mark.Step = fine_if (fits s at 1) _ _ tt (λ e. omega arith)
+fine_by s at Mark.Crash = fine_if (fits s at 1) _ _ tt (λ e. omega arith)
 fine_by s at Mark.View = λ e. omega arith
 fine_by s at Mark.Other = λ e. omega arith
 
-fine_order : (s : List ℕ) (at : ℕ) (o : Order) → order_at s at ≡ o → Fine o
+fine_order : (s : List ℕ) (at : ℕ) (o : Found Order) → order_at s at ≡ o → Fine o
 unfolding order_at
 fine_order s at o e = subst Fine e (fine_by s at (mark_at s at))
 
-abbrev Opens : Header → Type 0
-Opens (Header.Of n) = Unit {0}
-Opens (Header.Fault a) = file_number a ≢ 13
-
-opens_by : (s : List ℕ) (k : Mark) → Opens (header_by s k)
+opens_by : (s : List ℕ) (k : Mark) → Fine (header_by s k)
 opens_by s Mark.End = λ e. omega arith
 opens_by s Mark.Cut = λ e. omega arith
-opens_by s Mark.Header = go (fits s 0 1) (leb 1 (byte_at s 2) && leb (byte_at s 2) 32)
-  where
-    go : (t u : Bool) → Opens (cond t (cond u (Header.Of (byte_at s 2)) (Header.Fault OutOfRange)) (Header.Fault BodyCut))
-    go true true = tt
-    go true false = λ e. omega arith
-    go false u = λ e. omega arith
+opens_by s Mark.Header =
+    fine_if (fits s 0 1) _ _ (fine_if (leb 1 (byte_at s 2) && leb (byte_at s 2) 32) _ _ tt (λ e. omega arith)) (λ e. omega arith)
 opens_by s Mark.Enter = λ e. omega arith
 opens_by s Mark.Step = λ e. omega arith
 opens_by s Mark.Crash = λ e. omega arith
 opens_by s Mark.View = λ e. omega arith
 opens_by s Mark.Other = λ e. omega arith
 
-opens : (s : List ℕ) → Opens (header_of s)
+opens : (s : List ℕ) → Fine (header_of s)
 unfolding header_of
 opens s = opens_by s (mark_at s 0)
 
@@ -91,25 +80,23 @@ unfolding orders_from
 read_from_lem zero s at h = read_none (leb (length s) at) s at refl h
 read_from_lem (suc k) s at h = go (order_at s at) refl (read_from_lem k s)
   where
-    later : (o : Order) → order_at s at ≡ o → 3 ≤ width o → {x : Orders} {c : Call} → Read k s (at + width o) x → Read (suc k) s at (then c x)
-    later o e w r = record { few = omega (arith, r.few); answer = λ l. r.answer (omega arith) }
+    later : (o : Order) {x : Orders} → Read k s (at + width o) x → Read (suc k) s at (then (call_of o) x)
+    later o r = record { few = omega (arith, wide o, r.few); answer = λ l. r.answer (omega (arith, wide o)) }
 
-    go : (o : Order) → order_at s at ≡ o → ((next : ℕ) → next ≤ length s → Read k s next (orders_from k s next)) → Read (suc k) s at (order_then s at o (orders_from k s))
-    go Order.End e f = record { few = omega arith; answer = λ l q. omega arith }
-    go (Order.Fault a) e f = record { few = omega arith; answer = λ l. fine_order s at (Order.Fault a) e }
-    go (Order.Enter p v) e f = later (Order.Enter p v) e (omega arith) (f (at + 7) (whole_order s at (Order.Enter p v) h e))
-    go (Order.Step p) e f = later (Order.Step p) e (omega arith) (f (at + 3) (whole_order s at (Order.Step p) h e))
-    go (Order.Crash p) e f = later (Order.Crash p) e (omega arith) (f (at + 3) (whole_order s at (Order.Crash p) h e))
+    go : (r : Found Order) → order_at s at ≡ r → ((next : ℕ) → next ≤ length s → Read k s next (orders_from k s next)) → Read (suc k) s at (order_then s at r (orders_from k s))
+    go (Ok None) e f = record { few = omega arith; answer = λ l q. omega arith }
+    go (Err a) e f = record { few = omega arith; answer = λ l. fine_order s at (Err a) e }
+    go (Ok (Some o)) e f = later o (f (at + width o) (whole_order s at o e))
 
 -- so of a whole file
 read_file : (s : List ℕ) (budget : ℕ) → length s ≤ 65535 → ((replay_of s budget).taken ≤ 21844) × (21844 ≤ budget → file_number (replay_of s budget).answer ≢ 13)
 unfolding replay_of
 read_file s budget h = go (header_of s) refl (opens s)
   where
-    go : (x : Header) → header_of s ≡ x → Opens x
+    go : (x : Result ℕ FileAnswer) → header_of s ≡ x → Fine x
         → ((replay_by s budget x).taken ≤ 21844) × (21844 ≤ budget → file_number (replay_by s budget x).answer ≢ 13)
-    go (Header.Fault a) e o = (omega arith, λ _. o)
-    go (Header.Of n) e o = let r = read_from_lem budget s 3 (opened s n e).long in (omega (arith, r.few), λ l. r.answer (omega arith))
+    go (Err a) e o = (omega arith, λ _. o)
+    go (Ok n) e o = let r = read_from_lem budget s 3 (opened s n e).long in (omega (arith, r.few), λ l. r.answer (omega arith))
 
 pub few_orders : FewOrders
 few_orders s budget h = (read_file s budget h).0

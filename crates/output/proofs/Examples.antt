@@ -4,14 +4,15 @@ use mathlib.Core.Path.{◌≡◌, refl, ap, ◌∙◌}
 use mathlib.Core.List.{List}
 use lib.Dec.{lit≤}
 use lib.ListN.{length}
+use Rattle.std.specs.Prelude.{Result, Ok}
 use Rattle.sets.specs.Members.{has, count, size}
 use Rattle.sets.specs.Sets.{plus, first, every, within}
 use Rattle.rules.specs.Calls.{fresh, reading, settle, access, row_values}
 use Rattle.rules.proofs.Laws.Keeps.{meets_fresh}
 use Rattle.history.specs.Runs.{accepted_step, is_refused}
 use Rattle.history.proofs.Bare.{bare_answer, Trace, trace_by, trace_bare, end, tallied, from_end, tally_tallied}
+use Rattle.formats.specs.declared.FileAnswer.{FileAnswer}
 use Rattle.formats.specs.declared.FileAnswer.TheVariants.{OutOfRange, BodyCut}
-use Rattle.formats.specs.declared.Header.{Header}
 use Rattle.formats.specs.Numbers.{place_of}
 use Rattle.formats.specs.Records.{mark_of, mark_at, header_of, order_at, view_at}
 use Rattle.formats.specs.ViewFile.{tested_at, values_read, read_from, read_of}
@@ -56,12 +57,12 @@ replayed_bare s n low high o =
     ∙ ap (traced s o) (trace_bare n (fresh n) (meets_fresh n low high) o.calls)
 
 -- what is printed of a file whose header is taken
-prints : (s : List ℕ) (n : ℕ) {t : List ℕ} → length s ≤ 65535 → header_of s ≡ Header.Of n → replay_lines (bare s n (orders_from 65535 s 3)) ≡ t
+prints : (s : List ℕ) (n : ℕ) {t : List ℕ} → length s ≤ 65535 → header_of s ≡ Ok n → replay_lines (bare s n (orders_from 65535 s 3)) ≡ t
     → replay_text s ≡ t
 unfolding replay_of
 prints s n h e t =
     let o = opened s n e in
-    replay_short s h ∙ ap (λ (x : Header). replay_lines (replay_by s 65535 x)) e
+    replay_short s h ∙ ap (λ (x : Result ℕ FileAnswer). replay_lines (replay_by s 65535 x)) e
     ∙ ap replay_lines (replayed_bare s n o.some o.most (orders_from 65535 s 3)) ∙ t
 
 pub texts : Texts

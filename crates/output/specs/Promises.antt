@@ -1,5 +1,5 @@
 -- What is promised of the printed texts. `proofs/` proves each, under the same name in small letters, with hyphens.
-use Rattle.std.specs.Prelude.{ℕ, ◌≤◌, ◌<◌, ◌≡◌, ◌↔◌, ◌≢◌, false, List, [], ◌∷◌, ◌++◌, map, length}
+use Rattle.std.specs.Prelude.{ℕ, ◌≤◌, ◌<◌, ◌≡◌, ◌↔◌, ◌≢◌, false, List, [], ◌∷◌, ◌++◌, map, length, Err}
 use Rattle.sets.specs.Members.{count}
 use Rattle.rules.specs.declared.Machine.{Machine}
 use Rattle.rules.specs.Stands.{stage_of}
@@ -10,7 +10,6 @@ use Rattle.world.specs.Programs.{returns}
 use Rattle.history.specs.Figure.{Pair}
 use Rattle.history.specs.AsWorld.{program_of}
 use Rattle.formats.specs.declared.FileAnswer.{FileAnswer}
-use Rattle.formats.specs.declared.Header.{Header}
 use Rattle.formats.specs.Numbers.{file_number}
 use Rattle.formats.specs.Records.{header_of}
 use Rattle.formats.specs.Table.{place_given}
@@ -34,7 +33,7 @@ NeverThirteen = (s rest : List ℕ) → replay_text s ≢ ascii "run 13 " ++ res
 -- "A refused header prints the process line `p 1 absent 0 0 -`": every one, after the line `run`, its number, its place, and 0 three times. The place is 0,
 -- or with 24 the file's length.
 abbrev pub RefusedHeaderPrints : Type 0
-RefusedHeaderPrints = (s : List ℕ) (a : FileAnswer) → length s ≤ 65535 → header_of s ≡ Header.Fault a
+RefusedHeaderPrints = (s : List ℕ) (a : FileAnswer) → length s ≤ 65535 → header_of s ≡ Err a
     → replay_text s ≡ ascii "run " ++ (decimal (file_number a) ++ (ascii " " ++ (decimal (place_given s (file_number a) 0)
     ++ lines (" 0 0 0" ∷ "p 1 absent 0 0 -" ∷ "participants 0" ∷ []))))
 

@@ -24,8 +24,8 @@ use Rattle.replays.proofs.WholeFile.{refused_exactly}
 one_of : (en st cr : Bool) → not (en || st || cr) ≡ false → en ≡ false → (st || cr) ≡ true
 one_of en true cr m e = refl
 one_of en false true m e = refl
-one_of true false false m e = absurd (let y : ◌≡◌ {A = ℕ} 0 1 = cc in omega arith)
-one_of false false false m e = absurd (let y : ◌≡◌ {A = ℕ} 0 1 = cc in omega arith)
+one_of true false false m e = cc
+one_of false false false m e = cc
 
 either_of : (st cr : Bool) → (st || cr) ≡ true → (st ≡ true) ⊎ (cr ≡ true)
 either_of true cr e = inl refl

@@ -8,9 +8,10 @@ use native.Mathlib.Nat.{add-zero}
 use native.Mathlib.Omega.{arith}
 use lib.ListN.{length, take, drop}
 use lib.Seq.{take-add, drop-cons, take-length}
+use Rattle.std.specs.Prelude.{Result, Ok, Err}
 use Rattle.history.specs.Runs.{Call, enters, steps, crashes}
 use Rattle.text.specs.Ascii.{ascii}
-use Rattle.formats.specs.declared.Header.{Header}
+use Rattle.formats.specs.declared.FileAnswer.{FileAnswer}
 use Rattle.formats.specs.Records.{byte_at, word_at, word_bytes, header_of}
 use Rattle.formats.specs.Promises.{Bytes}
 use Rattle.formats.proofs.Ranges.{word_below}
@@ -142,9 +143,9 @@ every_file_of_calls f budget z =
     }
 
 -- the calls of a refused header too, which are none
-pub file_calls : (s : List ℕ) → Bytes s → (budget : ℕ) (h : Header) → header_of s ≡ h → FileCalls (calls_by s budget h)
-file_calls s b budget (Header.Fault a) e = tt
-file_calls s b budget (Header.Of n) e = rw e at (every_file_of_calls (record { content = s; bytes = b }) budget (header_whole s n e)).carried
+pub file_calls : (s : List ℕ) → Bytes s → (budget : ℕ) (h : Result ℕ FileAnswer) → header_of s ≡ h → FileCalls (calls_by s budget h)
+file_calls s b budget (Err a) e = tt
+file_calls s b budget (Ok n) e = rw e at (every_file_of_calls (record { content = s; bytes = b }) budget (header_whole s n e)).carried
 
 pub whole_file_of_calls : WholeFileOfCalls
 whole_file_of_calls f budget z =

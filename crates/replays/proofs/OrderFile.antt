@@ -7,6 +7,7 @@ use mathlib.Core.List.{List, [], ◌∷◌, ◌++◌, append_assoc, append-nil}
 use native.Mathlib.Nat.{add-zero}
 use native.Mathlib.Omega.{arith}
 use lib.ListN.{length, length-append}
+use Rattle.std.specs.Prelude.{Some, Ok}
 use Rattle.history.specs.Runs.{Call, enters, steps, crashes}
 use Rattle.formats.specs.declared.FileAnswer.TheVariants.{Whole}
 use Rattle.formats.specs.declared.Order.{Order}
@@ -20,7 +21,7 @@ use Rattle.replays.specs.Table.{marked, Holds, start, enter, step, crash}
 use Rattle.replays.proofs.Turns.{from_end, from_order}
 use Rattle.replays.proofs.Orders.{enter_at_lem, step_at_lem, crash_at_lem}
 
--- the order that a call is
+-- the order that asks for a call
 abbrev order_of : Call → Order
 order_of (enters p v) = Order.Enter p v
 order_of (steps p) = Order.Step p
@@ -38,19 +39,19 @@ module _ (a t : List ℕ) where
   marks : (l : List ℕ) (t : String) → marked l 0 t ≡ true → marked (a ++ l) (length a) t ≡ true
   marks l t e = ap₂ (spells t) (at_0 l) (byte_past a l 1) ∙ e
 
-  stands : (c : Call) → FileCall c → order_at (a ++ (call_bytes c ++ t)) (length a) ≡ order_of c
+  stands : (c : Call) → FileCall c → order_at (a ++ (call_bytes c ++ t)) (length a) ≡ Ok (Some (order_of c))
   stands (enters p v) w =
       let l : List ℕ = call_bytes (enters p v) ++ t in
-      enter_at_lem (a ++ l) (length a) (long l 7 (omega arith)) (marks l "EN" refl) ∙ ap₂ Order.Enter (byte_past a l 2) (word_past a l 3 ∙ word_back v t w.1)
+      enter_at_lem (a ++ l) (length a) (long l 7 (omega arith)) (marks l "EN" refl) ∙ ap₂ (λ (p x : ℕ). Ok (Some (Order.Enter p x))) (byte_past a l 2) (word_past a l 3 ∙ word_back v t w.1)
   stands (steps p) w =
       let l : List ℕ = call_bytes (steps p) ++ t in
-      step_at_lem (a ++ l) (length a) (long l 3 (omega arith)) (marks l "ST" refl) ∙ ap Order.Step (byte_past a l 2)
+      step_at_lem (a ++ l) (length a) (long l 3 (omega arith)) (marks l "ST" refl) ∙ ap (λ (p : ℕ). Ok (Some (Order.Step p))) (byte_past a l 2)
   stands (crashes p) w =
       let l : List ℕ = call_bytes (crashes p) ++ t in
-      crash_at_lem (a ++ l) (length a) (long l 3 (omega arith)) (marks l "CR" refl) ∙ ap Order.Crash (byte_past a l 2)
+      crash_at_lem (a ++ l) (length a) (long l 3 (omega arith)) (marks l "CR" refl) ∙ ap (λ (p : ℕ). Ok (Some (Order.Crash p))) (byte_past a l 2)
 
 -- what follows a call's bytes
-follows : (s : List ℕ) (at k : ℕ) (c : Call) → order_then s at (order_of c) (orders_from k s) ≡ then c (orders_from k s (at + length (call_bytes c)))
+follows : (s : List ℕ) (at k : ℕ) (c : Call) → order_then s at (Ok (Some (order_of c))) (orders_from k s) ≡ then c (orders_from k s (at + length (call_bytes c)))
 follows s at k (enters p v) = refl
 follows s at k (steps p) = refl
 follows s at k (crashes p) = refl
@@ -69,7 +70,7 @@ read_back_lem (c ∷ cs) a (suc k) w h =
     let next : orders_from k s (length a + length (call_bytes c)) ≡ whole s cs
     = subst (λ (n : ℕ). orders_from k s n ≡ whole s cs) (length-append a (call_bytes c))
     (subst (λ (l : List ℕ). orders_from k l (length (a ++ call_bytes c)) ≡ whole l cs) e (read_back_lem cs (a ++ call_bytes c) k w.1 (omega arith))) in
-    from_order (suc k) k s (length a) (order_of c) refl (stands a (order_bytes cs) c w.0)
+    from_order (suc k) k s (length a) (Ok (Some (order_of c))) refl (stands a (order_bytes cs) c w.0)
     ∙ follows s (length a) k c
     ∙ ap (then c) next
 

@@ -11,12 +11,13 @@ use native.Mathlib.Omega.{arith}
 use lib.Dec.{ltb, eqb}
 use lib.ListN.{length}
 use borrow.Author.Tests.{ltb-false, eqb-true, le-leb, lt-leb, ne_eqb}
+use Rattle.std.specs.Prelude.{Some, None, Ok, Err}
 use Rattle.formats.specs.declared.FileAnswer.TheVariants.{OtherMark, MarkCut, BodyCut, HeaderAgain}
 use Rattle.formats.specs.declared.Mark.{Mark}
 use Rattle.formats.specs.declared.Order.{Order}
 use Rattle.formats.specs.Numbers.{file_number}
-use Rattle.formats.specs.Records.{byte_at, word_at, spells, mark_of, mark_at, fits, order_by, order_at}
-use Rattle.formats.proofs.Table.{not_leb}
+use Rattle.formats.specs.Records.{byte_at, word_at, spells, mark_of, mark_at, fits, order_by, order_at, Found}
+use Rattle.formats.proofs.Table.{not_leb, fault_number}
 use Rattle.sets.specs.Lines.{when, first_that}
 use Rattle.sets.proofs.Lines.{says}
 use Rattle.replays.specs.Table.{marked, order_lines, Stands}
@@ -48,22 +49,22 @@ mark_at_lem s at t h e =
 -- A record that has its mark and its body is read.
 module _ (s : List ℕ) (at : ℕ) where
   read_at : (t : String) (body : ℕ) (o : Order)
-      → order_by s at (mark_of (letter t 0) (letter t 1)) ≡ cond (fits s at body) o (Order.Fault BodyCut)
-      → at + 2 + body ≤ length s → marked s at t ≡ true → order_at s at ≡ o
+      → order_by s at (mark_of (letter t 0) (letter t 1)) ≡ cond (fits s at body) (Ok (Some o)) (Err BodyCut)
+      → at + 2 + body ≤ length s → marked s at t ≡ true → order_at s at ≡ Ok (Some o)
   unfolding order_at
   read_at t body o f h e =
       ap (order_by s at) (mark_at_lem s at t (omega arith) e) ∙ f
-      ∙ ap (λ (b : Bool). cond b o (Order.Fault BodyCut)) (le-leb (at + 2 + body) (length s) h)
+      ∙ ap (λ (b : Bool). cond b (Ok (Some o)) (Err BodyCut)) (le-leb (at + 2 + body) (length s) h)
 
-  pub enter_at_lem : at + 7 ≤ length s → marked s at "EN" ≡ true → order_at s at ≡ Order.Enter (byte_at s (at + 2)) (word_at s (at + 3))
+  pub enter_at_lem : at + 7 ≤ length s → marked s at "EN" ≡ true → order_at s at ≡ Ok (Some (Order.Enter (byte_at s (at + 2)) (word_at s (at + 3))))
   unfolding mark_of
   enter_at_lem h e = read_at "EN" 5 (Order.Enter (byte_at s (at + 2)) (word_at s (at + 3))) refl (omega arith) e
 
-  pub step_at_lem : at + 3 ≤ length s → marked s at "ST" ≡ true → order_at s at ≡ Order.Step (byte_at s (at + 2))
+  pub step_at_lem : at + 3 ≤ length s → marked s at "ST" ≡ true → order_at s at ≡ Ok (Some (Order.Step (byte_at s (at + 2))))
   unfolding mark_of
   step_at_lem h e = read_at "ST" 1 (Order.Step (byte_at s (at + 2))) refl (omega arith) e
 
-  pub crash_at_lem : at + 3 ≤ length s → marked s at "CR" ≡ true → order_at s at ≡ Order.Crash (byte_at s (at + 2))
+  pub crash_at_lem : at + 3 ≤ length s → marked s at "CR" ≡ true → order_at s at ≡ Ok (Some (Order.Crash (byte_at s (at + 2))))
   unfolding mark_of
   crash_at_lem h e = read_at "CR" 1 (Order.Crash (byte_at s (at + 2))) refl (omega arith) e
 
@@ -84,22 +85,22 @@ module _ (s : List ℕ) (at : ℕ) where
   pub crash_long : Stands s at "CR" → at + 3 ≤ length s
   crash_long r = ltb-false (length s) (at + 3) (body_there s at "CR" r)
 
-  pub enter_stands : Stands s at "EN" → order_at s at ≡ Order.Enter (byte_at s (at + 2)) (word_at s (at + 3))
+  pub enter_stands : Stands s at "EN" → order_at s at ≡ Ok (Some (Order.Enter (byte_at s (at + 2)) (word_at s (at + 3))))
   enter_stands r = enter_at_lem s at (enter_long r) r.mark
 
-  pub step_stands : Stands s at "ST" → order_at s at ≡ Order.Step (byte_at s (at + 2))
+  pub step_stands : Stands s at "ST" → order_at s at ≡ Ok (Some (Order.Step (byte_at s (at + 2))))
   step_stands r = step_at_lem s at (step_long r) r.mark
 
-  pub crash_stands : Stands s at "CR" → order_at s at ≡ Order.Crash (byte_at s (at + 2))
+  pub crash_stands : Stands s at "CR" → order_at s at ≡ Ok (Some (Order.Crash (byte_at s (at + 2))))
   crash_stands r = crash_at_lem s at (crash_long r) r.mark
 
 -- The order at a place where bytes are left, as a choice by tests.
-bodied : Bool → Order → Order
-bodied b o = cond b o (Order.Fault BodyCut)
+bodied : Bool → Order → Found Order
+bodied b o = cond b (Ok (Some o)) (Err BodyCut)
 
-chain : Bool → Bool → Bool → Bool → Bool → Order → Order → Order → Order
+chain : Bool → Bool → Bool → Bool → Bool → Found Order → Found Order → Found Order → Found Order
 chain a b en st cr e s c =
-    cond a (Order.Fault MarkCut) (cond b (Order.Fault HeaderAgain) (cond en e (cond st s (cond cr c (Order.Fault OtherMark)))))
+    cond a (Err MarkCut) (cond b (Err HeaderAgain) (cond en e (cond st s (cond cr c (Err OtherMark)))))
 
 chosen : (s : List ℕ) (at : ℕ) (a b en st cr vw : Bool)
     → order_by s at (cond a Mark.Cut (cond b Mark.Header (cond en Mark.Enter (cond st Mark.Step (cond cr Mark.Crash (cond vw Mark.View Mark.Other))))))
@@ -125,25 +126,17 @@ order_is s at h =
     ap (λ (b : Bool). order_by s at (cond b Mark.End rest)) (lt-leb (length s) at h)
     ∙ chosen s at (eqb (length s) (at + 1)) (marked s at "MN") (marked s at "EN") (marked s at "ST") (marked s at "CR") (marked s at "VW")
 
--- the number of what stands at a place
-abbrev pub order_number_lem : Order → ℕ
-order_number_lem Order.End = 0
-order_number_lem (Order.Fault a) = file_number a
-order_number_lem (Order.Enter p v) = 0
-order_number_lem (Order.Step p) = 0
-order_number_lem (Order.Crash p) = 0
-
 -- which mark an order has, and the numbers in it; a fault has a number
-abbrev Tells : Bool → Bool → Bool → ℕ → ℕ → Order → Type 0
-Tells en st cr q w Order.End = ⊥
-Tells en st cr q w (Order.Fault a) = file_number a ≢ 0
-Tells en st cr q w (Order.Enter p v) = (en ≡ true) × (q ≡ p) × (w ≡ v)
-Tells en st cr q w (Order.Step p) = (st ≡ true) × (q ≡ p)
-Tells en st cr q w (Order.Crash p) = (cr ≡ true) × (q ≡ p)
+abbrev Tells : Bool → Bool → Bool → ℕ → ℕ → Found Order → Type 0
+Tells en st cr q w (Ok None) = ⊥
+Tells en st cr q w (Err a) = file_number a ≢ 0
+Tells en st cr q w (Ok (Some (Order.Enter p v))) = (en ≡ true) × (q ≡ p) × (w ≡ v)
+Tells en st cr q w (Ok (Some (Order.Step p))) = (st ≡ true) × (q ≡ p)
+Tells en st cr q w (Ok (Some (Order.Crash p))) = (cr ≡ true) × (q ≡ p)
 
 -- the number of what the tests lead to, and what it tells
 of_chain : (a b en st cr f g : Bool) (p v : ℕ)
-    → (order_number_lem (chain a b en st cr (bodied f (Order.Enter p v)) (bodied g (Order.Step p)) (bodied g (Order.Crash p)))
+    → (fault_number (chain a b en st cr (bodied f (Order.Enter p v)) (bodied g (Order.Step p)) (bodied g (Order.Crash p)))
     ≡ first_that (when 11 a ∷ when 12 b ∷ when 10 (not (en || st || cr)) ∷ when 24 (cond en (not f) (not g)) ∷ []))
     × Tells en st cr p v (chain a b en st cr (bodied f (Order.Enter p v)) (bodied g (Order.Step p)) (bodied g (Order.Crash p)))
 unfolding chain bodied
@@ -157,35 +150,35 @@ of_chain false false false false true f true p v = (refl, (refl, refl))
 of_chain false false false false true f false p v = (refl, λ e. omega arith)
 of_chain false false false false false f g p v = (refl, λ e. omega arith)
 
-pub order_number : (s : List ℕ) (at : ℕ) → at < length s → order_number_lem (order_at s at) ≡ first_that (order_lines s at)
+pub order_number : (s : List ℕ) (at : ℕ) → at < length s → fault_number (order_at s at) ≡ first_that (order_lines s at)
 order_number s at h =
     let long : not (fits s at 5) ≡ ltb (length s) (at + 7) = not_leb (at + 2 + 5) (length s) (at + 7) (omega arith) in
     let short : not (fits s at 1) ≡ ltb (length s) (at + 3) = not_leb (at + 2 + 1) (length s) (at + 3) (omega arith) in
-    ap order_number_lem (order_is s at h)
+    ap fault_number (order_is s at h)
     ∙ (of_chain (eqb (length s) (at + 1)) (marked s at "MN") (marked s at "EN") (marked s at "ST") (marked s at "CR") (fits s at 5) (fits s at 1)
     (byte_at s (at + 2)) (word_at s (at + 3))).0
     ∙ ap₂ (λ (x y : Bool). first_that (when 11 (eqb (length s) (at + 1)) ∷ when 12 (marked s at "MN")
     ∷ when 10 (not (marked s at "EN" || marked s at "ST" || marked s at "CR")) ∷ when 24 (cond (marked s at "EN") x y) ∷ [])) long short
 
 -- an order that is read stands there
-abbrev pub Told : List ℕ → ℕ → Order → Type 0
-Told s at Order.End = ⊥
-Told s at (Order.Fault a) = file_number a ≢ 0
-Told s at (Order.Enter p v) = Stands s at "EN" × (byte_at s (at + 2) ≡ p) × (word_at s (at + 3) ≡ v)
-Told s at (Order.Step p) = Stands s at "ST" × (byte_at s (at + 2) ≡ p)
-Told s at (Order.Crash p) = Stands s at "CR" × (byte_at s (at + 2) ≡ p)
+abbrev pub Told : List ℕ → ℕ → Found Order → Type 0
+Told s at (Ok None) = ⊥
+Told s at (Err a) = file_number a ≢ 0
+Told s at (Ok (Some (Order.Enter p v))) = Stands s at "EN" × (byte_at s (at + 2) ≡ p) × (word_at s (at + 3) ≡ v)
+Told s at (Ok (Some (Order.Step p))) = Stands s at "ST" × (byte_at s (at + 2) ≡ p)
+Told s at (Ok (Some (Order.Crash p))) = Stands s at "CR" × (byte_at s (at + 2) ≡ p)
 
-told_by : (s : List ℕ) (at : ℕ) → at < length s → (o : Order) → order_number_lem o ≡ first_that (order_lines s at)
+told_by : (s : List ℕ) (at : ℕ) → at < length s → (o : Found Order) → fault_number o ≡ first_that (order_lines s at)
     → Tells (marked s at "EN") (marked s at "ST") (marked s at "CR") (byte_at s (at + 2)) (word_at s (at + 3)) o → Told s at o
-told_by s at h Order.End n t = t
-told_by s at h (Order.Fault a) n t = t
-told_by s at h (Order.Enter p v) n t = (record { left = h; whole = sym n; mark = t.0 }, t.1, t.2)
-told_by s at h (Order.Step p) n t = (record { left = h; whole = sym n; mark = t.0 }, t.1)
-told_by s at h (Order.Crash p) n t = (record { left = h; whole = sym n; mark = t.0 }, t.1)
+told_by s at h (Ok None) n t = t
+told_by s at h (Err a) n t = t
+told_by s at h (Ok (Some (Order.Enter p v))) n t = (record { left = h; whole = sym n; mark = t.0 }, t.1, t.2)
+told_by s at h (Ok (Some (Order.Step p))) n t = (record { left = h; whole = sym n; mark = t.0 }, t.1)
+told_by s at h (Ok (Some (Order.Crash p))) n t = (record { left = h; whole = sym n; mark = t.0 }, t.1)
 
-pub told : (s : List ℕ) (at : ℕ) (o : Order) → at < length s → order_at s at ≡ o → Told s at o
+pub told : (s : List ℕ) (at : ℕ) (o : Found Order) → at < length s → order_at s at ≡ o → Told s at o
 told s at o h e =
-    told_by s at h o (ap order_number_lem (sym e) ∙ order_number s at h)
+    told_by s at h o (ap fault_number (sym e) ∙ order_number s at h)
     (subst (Tells (marked s at "EN") (marked s at "ST") (marked s at "CR") (byte_at s (at + 2)) (word_at s (at + 3))) (sym (order_is s at h) ∙ e)
     (of_chain (eqb (length s) (at + 1)) (marked s at "MN") (marked s at "EN") (marked s at "ST") (marked s at "CR") (fits s at 5) (fits s at 1)
     (byte_at s (at + 2)) (word_at s (at + 3))).1)

@@ -9,22 +9,22 @@ use native.Mathlib.Omega.{arith}
 use lib.Dec.{leb, eqb}
 use lib.ListN.{length, length-append}
 use borrow.Author.Tests.{leb-true, leb-false, eqb-true, eqb-false, eq-eqb, ne_eqb}
+use Rattle.std.specs.Prelude.{Some, None, Result, Ok, Err}
 use Rattle.rules.proofs.Laws.Small.{at_most_or_above}
 use Rattle.history.specs.Runs.{Call, enters, steps, crashes}
 use Rattle.formats.specs.declared.FileAnswer.{FileAnswer}
 use Rattle.formats.specs.declared.FileAnswer.TheVariants.{Whole, BudgetSpent}
-use Rattle.formats.specs.declared.Header.{Header}
 use Rattle.formats.specs.declared.Order.{Order}
 use Rattle.formats.specs.Numbers.{file_number, place_of}
-use Rattle.formats.specs.Records.{byte_at, word_at, header_of, order_at}
+use Rattle.formats.specs.Records.{byte_at, word_at, header_of, order_at, Found}
 use Rattle.formats.specs.Table.{header_lines, place_given}
 use Rattle.sets.specs.Lines.{when, first_that}
 use Rattle.formats.proofs.Reading.{opened}
-use Rattle.formats.proofs.Table.{header_number_lem, header_number, header_refused}
-use Rattle.replays.specs.Replays.{Orders, ended, then, order_then, orders_from, replay_by, replay_of, calls_by, calls_of}
+use Rattle.formats.proofs.Table.{fault_number, header_number, header_refused}
+use Rattle.replays.specs.Replays.{Orders, call_of, width, ended, then, order_then, orders_from, replay_by, replay_of, calls_by, calls_of}
 use Rattle.replays.specs.Table.{order_lines, Holds, start, enter, step, crash, HoldsOne, Refusal, RefusedExactly, WholeExactly, WholePlace}
-use Rattle.replays.proofs.Turns.{width, whole_order, order_end, from_end, from_spent, from_order}
-use Rattle.replays.proofs.Orders.{order_number_lem, order_number, enter_stands, step_stands, crash_stands, told}
+use Rattle.replays.proofs.Turns.{wide, whole_order, order_end, from_end, from_spent, from_order}
+use Rattle.replays.proofs.Orders.{Told, order_number, enter_stands, step_stands, crash_stands, told}
 
 -- calls made before others
 after : List Call → Orders → Orders
@@ -38,18 +38,19 @@ one_later cs c o =
 -- A place that reading comes to within the budget: what is left is read from there.
 record Comes (s : List ℕ) (budget at : ℕ) (cs : List Call) : Type 0 where
   inside : at ≤ length s
-  header : (n : ℕ) × (header_of s ≡ Header.Of n)
+  header : (n : ℕ) × (header_of s ≡ Ok n)
   same : orders_from budget s 3 ≡ after cs (orders_from (budget - length cs) s at)
 
-one_more : (s : List ℕ) (budget at : ℕ) (cs : List Call) (c : Call) (o : Order) → Comes s budget at cs → length (cs ++ c ∷ []) ≤ budget → order_at s at ≡ o
-    → ((k : ℕ) → order_then s at o (orders_from k s) ≡ then c (orders_from k s (at + width o))) → Comes s budget (at + width o) (cs ++ c ∷ [])
-one_more s budget at cs c o g l e f =
+one_more : (s : List ℕ) (budget at : ℕ) (cs : List Call) (o : Order) → Comes s budget at cs → length (cs ++ call_of o ∷ []) ≤ budget
+    → order_at s at ≡ Ok (Some o) → Comes s budget (at + width o) (cs ++ call_of o ∷ [])
+one_more s budget at cs o g l e =
+    let c = call_of o in
     let k = budget - length (cs ++ c ∷ []) in
     let z : budget - length cs ≡ suc k = omega (arith, length-append cs (c ∷ [])) in
     record {
-      inside = whole_order s at o g.inside e;
+      inside = whole_order s at o e;
       header = g.header;
-      same = g.same ∙ ap (after cs) (from_order (budget - length cs) k s at o z e ∙ f k) ∙ one_later cs c (orders_from k s (at + width o));
+      same = g.same ∙ ap (after cs) (from_order (budget - length cs) k s at (Ok (Some o)) z e) ∙ one_later cs c (orders_from k s (at + width o));
     }
 
 -- what came before is within the budget too
@@ -57,14 +58,14 @@ fewer : (cs : List Call) (c : Call) (budget : ℕ) → length (cs ++ c ∷ []) �
 fewer cs c budget l = omega (arith, length-append cs (c ∷ []))
 
 -- a header of which no line applies is read, and the other way round
-pub header_whole : (s : List ℕ) (n : ℕ) → header_of s ≡ Header.Of n → first_that (header_lines s) ≡ 0
-header_whole s n e = sym (header_number s) ∙ ap header_number_lem e
+pub header_whole : (s : List ℕ) (n : ℕ) → header_of s ≡ Ok n → first_that (header_lines s) ≡ 0
+header_whole s n e = sym (header_number s) ∙ ap fault_number e
 
-whole_by : (s : List ℕ) → first_that (header_lines s) ≡ 0 → (h : Header) → header_of s ≡ h → (n : ℕ) × (header_of s ≡ Header.Of n)
-whole_by s z (Header.Of n) e = (n, e)
-whole_by s z (Header.Fault a) e = absurd (header_refused s a e (sym (ap header_number_lem e) ∙ header_number s ∙ z))
+whole_by : (s : List ℕ) → first_that (header_lines s) ≡ 0 → (h : Result ℕ FileAnswer) → header_of s ≡ h → (n : ℕ) × (header_of s ≡ Ok n)
+whole_by s z (Ok n) e = (n, e)
+whole_by s z (Err a) e = absurd (header_refused s a e (sym (ap fault_number e) ∙ header_number s ∙ z))
 
-pub whole_header : (s : List ℕ) → first_that (header_lines s) ≡ 0 → (n : ℕ) × (header_of s ≡ Header.Of n)
+pub whole_header : (s : List ℕ) → first_that (header_lines s) ≡ 0 → (n : ℕ) × (header_of s ≡ Ok n)
 whole_header s z = whole_by s z (header_of s) refl
 
 comes : {s : List ℕ} {at : ℕ} {cs : List Call} (budget : ℕ) → Holds s at cs → length cs ≤ budget → Comes s budget at cs
@@ -74,41 +75,29 @@ comes {s} budget (start z) l =
     let h = whole_header s z in
     record { inside = (opened s h.0 h.1).long; header = h; same = ap (λ (k : ℕ). orders_from k s 3) y }
 comes {s} budget (enter {at = at} {cs = cs} h r) l =
-    let p = byte_at s (at + 2) in
-    let v = word_at s (at + 3) in
-    one_more s budget at cs (enters p v) (Order.Enter p v) (comes budget h (fewer cs (enters p v) budget l)) l (enter_stands s at r) (λ k. refl)
+    let o = Order.Enter (byte_at s (at + 2)) (word_at s (at + 3)) in
+    one_more s budget at cs o (comes budget h (fewer cs (call_of o) budget l)) l (enter_stands s at r)
 comes {s} budget (step {at = at} {cs = cs} h r) l =
-    let p = byte_at s (at + 2) in
-    one_more s budget at cs (steps p) (Order.Step p) (comes budget h (fewer cs (steps p) budget l)) l (step_stands s at r) (λ k. refl)
+    let o = Order.Step (byte_at s (at + 2)) in
+    one_more s budget at cs o (comes budget h (fewer cs (call_of o) budget l)) l (step_stands s at r)
 comes {s} budget (crash {at = at} {cs = cs} h r) l =
-    let p = byte_at s (at + 2) in
-    one_more s budget at cs (crashes p) (Order.Crash p) (comes budget h (fewer cs (crashes p) budget l)) l (crash_stands s at r) (λ k. refl)
+    let o = Order.Crash (byte_at s (at + 2)) in
+    one_more s budget at cs o (comes budget h (fewer cs (call_of o) budget l)) l (crash_stands s at r)
 
 -- an order that is read is held
-module _ (s : List ℕ) (at : ℕ) (cs : List Call) (h : Holds s at cs) (l : at ≤ length s) where
-  here : (o : Order) → 1 ≤ width o → order_at s at ≡ o → at < length s
-  here o w e = omega (arith, whole_order s at o l e)
+held_by : {s : List ℕ} {at : ℕ} {cs : List Call} → Holds s at cs → (o : Order) → Told s at (Ok (Some o)) → Holds s (at + width o) (cs ++ call_of o ∷ [])
+held_by {s} {at} {cs} h (Order.Enter p v) t = subst₂ (λ (q w : ℕ). Holds s (at + 7) (cs ++ enters q w ∷ [])) t.1 t.2 (enter h t.0)
+held_by {s} {at} {cs} h (Order.Step p) t = subst (λ (q : ℕ). Holds s (at + 3) (cs ++ steps q ∷ [])) t.1 (step h t.0)
+held_by {s} {at} {cs} h (Order.Crash p) t = subst (λ (q : ℕ). Holds s (at + 3) (cs ++ crashes q ∷ [])) t.1 (crash h t.0)
 
-  held_enter : (p v : ℕ) → order_at s at ≡ Order.Enter p v → Holds s (at + 7) (cs ++ enters p v ∷ [])
-  held_enter p v e =
-      let t = told s at (Order.Enter p v) (here (Order.Enter p v) (omega arith) e) e in
-      subst₂ (λ (q w : ℕ). Holds s (at + 7) (cs ++ enters q w ∷ [])) t.1 t.2 (enter h t.0)
-
-  held_step : (p : ℕ) → order_at s at ≡ Order.Step p → Holds s (at + 3) (cs ++ steps p ∷ [])
-  held_step p e =
-      let t = told s at (Order.Step p) (here (Order.Step p) (omega arith) e) e in
-      subst (λ (q : ℕ). Holds s (at + 3) (cs ++ steps q ∷ [])) t.1 (step h t.0)
-
-  held_crash : (p : ℕ) → order_at s at ≡ Order.Crash p → Holds s (at + 3) (cs ++ crashes p ∷ [])
-  held_crash p e =
-      let t = told s at (Order.Crash p) (here (Order.Crash p) (omega arith) e) e in
-      subst (λ (q : ℕ). Holds s (at + 3) (cs ++ crashes q ∷ [])) t.1 (crash h t.0)
+held_order : (s : List ℕ) (at : ℕ) (cs : List Call) → Holds s at cs → (o : Order) → order_at s at ≡ Ok (Some o) → Holds s (at + width o) (cs ++ call_of o ∷ [])
+held_order s at cs h o e = held_by h o (told s at (Ok (Some o)) (omega (arith, wide o, whole_order s at o e)) e)
 
 -- Where reading stops, from a place on with k orders left to take: at the end, at the budget, or at a fault.
 data Why (s : List ℕ) (k : ℕ) (o : Orders) : Type 0 where
   whole : o.answer ≡ Whole → o.place ≡ length s → Why s k o
   spent : o.answer ≡ BudgetSpent → o.place < length s → length o.calls ≡ k → Why s k o
-  fault : (a : FileAnswer) → o.answer ≡ a → o.place < length s → length o.calls < k → order_at s o.place ≡ Order.Fault a → Why s k o
+  fault : (a : FileAnswer) → o.answer ≡ a → o.place < length s → length o.calls < k → order_at s o.place ≡ Err a → Why s k o
 
 record Stops (s : List ℕ) (k : ℕ) (cs : List Call) (o : Orders) : Type 0 where
   held : Holds s o.place (cs ++ o.calls)
@@ -145,24 +134,17 @@ stops_then s k cs c o g =
 
 stops_by : (s : List ℕ) (k at : ℕ) (cs : List Call) → Holds s at cs → at ≤ length s
     → ((at : ℕ) (cs : List Call) → Holds s at cs → at ≤ length s → Stops s k cs (orders_from k s at))
-    → (o : Order) → order_at s at ≡ o → Stops s (suc k) cs (order_then s at o (orders_from k s))
-stops_by s k at cs h l go Order.End e =
-    ⊎_elim (λ q. stops_end s (suc k) at cs h q) (λ q. absurd (told s at Order.End q e)) (eq-or-lt_of_le l)
-stops_by s k at cs h l go (Order.Fault a) e =
+    → (o : Found Order) → order_at s at ≡ o → Stops s (suc k) cs (order_then s at o (orders_from k s))
+stops_by s k at cs h l go (Ok None) e =
+    ⊎_elim (λ q. stops_end s (suc k) at cs h q) (λ q. absurd (told s at (Ok None) q e)) (eq-or-lt_of_le l)
+stops_by s k at cs h l go (Err a) e =
     ⊎_elim
-    (λ q. let z : Order.End ≡ Order.Fault a = sym (order_end s at (omega arith)) ∙ e in
-    let y : ◌≡◌ {A = ℕ} 0 1 = cc in absurd (omega arith))
+    (λ q. let z : ◌≡◌ {A = Found Order} (Ok None) (Err a) = sym (order_end s at (omega arith)) ∙ e in cc)
     (λ q. record { held = holds-none s at cs h; most = omega arith; why = fault a refl q (omega arith) e })
     (eq-or-lt_of_le l)
-stops_by s k at cs h l go (Order.Enter p v) e =
-    stops_then s k cs (enters p v) (orders_from k s (at + 7))
-    (go (at + 7) (cs ++ enters p v ∷ []) (held_enter s at cs h l p v e) (whole_order s at (Order.Enter p v) l e))
-stops_by s k at cs h l go (Order.Step p) e =
-    stops_then s k cs (steps p) (orders_from k s (at + 3))
-    (go (at + 3) (cs ++ steps p ∷ []) (held_step s at cs h l p e) (whole_order s at (Order.Step p) l e))
-stops_by s k at cs h l go (Order.Crash p) e =
-    stops_then s k cs (crashes p) (orders_from k s (at + 3))
-    (go (at + 3) (cs ++ crashes p ∷ []) (held_crash s at cs h l p e) (whole_order s at (Order.Crash p) l e))
+stops_by s k at cs h l go (Ok (Some o)) e =
+    stops_then s k cs (call_of o) (orders_from k s (at + width o))
+    (go (at + width o) (cs ++ call_of o ∷ []) (held_order s at cs h o e) (whole_order s at o e))
 
 stops : (k : ℕ) (s : List ℕ) (at : ℕ) (cs : List Call) → Holds s at cs → at ≤ length s → Stops s k cs (orders_from k s at)
 unfolding orders_from
@@ -177,12 +159,10 @@ grows_zero s at l false = omega arith
 
 grows_by : (s : List ℕ) (k at : ℕ) → at ≤ length s
     → ((at : ℕ) → at ≤ length s → at + length (orders_from k s at).calls ≤ (orders_from k s at).place)
-    → (o : Order) → order_at s at ≡ o → at + length (order_then s at o (orders_from k s)).calls ≤ (order_then s at o (orders_from k s)).place
-grows_by s k at l go Order.End e = omega arith
-grows_by s k at l go (Order.Fault a) e = omega arith
-grows_by s k at l go (Order.Enter p v) e = omega (arith, go (at + 7) (whole_order s at (Order.Enter p v) l e))
-grows_by s k at l go (Order.Step p) e = omega (arith, go (at + 3) (whole_order s at (Order.Step p) l e))
-grows_by s k at l go (Order.Crash p) e = omega (arith, go (at + 3) (whole_order s at (Order.Crash p) l e))
+    → (o : Found Order) → order_at s at ≡ o → at + length (order_then s at o (orders_from k s)).calls ≤ (order_then s at o (orders_from k s)).place
+grows_by s k at l go (Ok None) e = omega arith
+grows_by s k at l go (Err a) e = omega arith
+grows_by s k at l go (Ok (Some o)) e = omega (arith, wide o, go (at + width o) (whole_order s at o e))
 
 grows : (k : ℕ) (s : List ℕ) (at : ℕ) → at ≤ length s → at + length (orders_from k s at).calls ≤ (orders_from k s at).place
 unfolding orders_from
@@ -223,7 +203,7 @@ holds_one s at cs ds h g =
     ⊎_elim (λ l. one_list s at cs ds h g l) (λ l. sym (one_list s at ds cs g h (omega arith))) (at_most_or_above (length cs) (length ds))
 
 -- a file whose header is read
-file_stops : (s : List ℕ) (budget n : ℕ) → header_of s ≡ Header.Of n → Stops s budget [] (orders_from budget s 3)
+file_stops : (s : List ℕ) (budget n : ℕ) → header_of s ≡ Ok n → Stops s budget [] (orders_from budget s 3)
 file_stops s budget n e = stops budget s 3 [] (start (header_whole s n e)) (opened s n e).long
 
 -- What a replay answers, by its header.
@@ -233,33 +213,33 @@ record Answered (s : List ℕ) (budget : ℕ) (o : Orders) : Type 0 where
   calls : calls_of s budget ≡ o.calls
 
 module _ (s : List ℕ) (budget : ℕ) where
-  read_header : (n : ℕ) → header_of s ≡ Header.Of n → Answered s budget (orders_from budget s 3)
+  read_header : (n : ℕ) → header_of s ≡ Ok n → Answered s budget (orders_from budget s 3)
   unfolding replay_of
   read_header n e =
       record {
-        answer = ap (λ (h : Header). (replay_by s budget h).answer) e;
-        place = ap (λ (h : Header). (replay_by s budget h).place) e;
+        answer = ap (λ (h : Result ℕ FileAnswer). (replay_by s budget h).answer) e;
+        place = ap (λ (h : Result ℕ FileAnswer). (replay_by s budget h).place) e;
         calls = ap (calls_by s budget) e;
       }
 
-  faulty_header : (a : FileAnswer) → header_of s ≡ Header.Fault a
+  faulty_header : (a : FileAnswer) → header_of s ≡ Err a
       → ((replay_of s budget).answer ≡ a) × ((replay_of s budget).place ≡ place_of a 0 (length s))
   unfolding replay_of
-  faulty_header a e = (ap (λ (h : Header). (replay_by s budget h).answer) e, ap (λ (h : Header). (replay_by s budget h).place) e)
+  faulty_header a e = (ap (λ (h : Result ℕ FileAnswer). (replay_by s budget h).answer) e, ap (λ (h : Result ℕ FileAnswer). (replay_by s budget h).place) e)
 
   -- the place, by the number and the record that was not taken
-  pub stop_place : (n : ℕ) → header_of s ≡ Header.Of n
+  pub stop_place : (n : ℕ) → header_of s ≡ Ok n
       → (replay_of s budget).place ≡ place_given s (file_number (replay_of s budget).answer) (orders_from budget s 3).place
   stop_place n e =
       let r = read_header n e in
       r.place ∙ ap (λ (a : FileAnswer). place_of a (orders_from budget s 3).place (length s)) (sym r.answer)
 
 -- the calls made are those that the file holds up to that record
-pub held_calls : (s : List ℕ) (budget n : ℕ) → header_of s ≡ Header.Of n → Holds s (orders_from budget s 3).place (calls_of s budget)
+pub held_calls : (s : List ℕ) (budget n : ℕ) → header_of s ≡ Ok n → Holds s (orders_from budget s 3).place (calls_of s budget)
 held_calls s budget n e =
     subst (Holds s (orders_from budget s 3).place) (sym (read_header s budget n e).calls) (file_stops s budget n e).held
 
-pub few_calls : (s : List ℕ) (budget n : ℕ) → header_of s ≡ Header.Of n → length (orders_from budget s 3).calls ≤ budget
+pub few_calls : (s : List ℕ) (budget n : ℕ) → header_of s ≡ Ok n → length (orders_from budget s 3).calls ≤ budget
 few_calls s budget n e = (file_stops s budget n e).most
 
 -- Each number exactly when it applies.
@@ -276,19 +256,19 @@ module _ (s : List ℕ) (budget k : ℕ) (some : k ≢ 0) where
       )
   refusal_why o g e (fault a w q l f) =
       let ne : eqb (length o.calls) budget ≡ false = ne_eqb (length o.calls) budget (λ z. omega arith) in
-      let number : first_that (order_lines s o.place) ≡ k = sym (order_number s o.place q) ∙ ap order_number_lem f ∙ sym (ap file_number w) ∙ e in
+      let number : first_that (order_lines s o.place) ≡ k = sym (order_number s o.place q) ∙ ap fault_number f ∙ sym (ap file_number w) ∙ e in
       inr (o.calls, g.held, g.most, q, ap (λ (b : Bool). cond b 13 (first_that (order_lines s o.place))) ne ∙ number)
 
-  refusal_by : (place : ℕ) (h : Header) → header_of s ≡ h → file_number (replay_of s budget).answer ≡ k → (replay_of s budget).place ≡ place
+  refusal_by : (place : ℕ) (h : Result ℕ FileAnswer) → header_of s ≡ h → file_number (replay_of s budget).answer ≡ k → (replay_of s budget).place ≡ place
       → (at : ℕ) × Refusal s budget k at × (place ≡ place_given s k at)
-  refusal_by place (Header.Fault a) h e p =
+  refusal_by place (Err a) h e p =
       let r = faulty_header s budget a h in
       let number : file_number a ≡ k = sym (ap file_number r.0) ∙ e in (
         0,
-        inl (refl, sym (header_number s) ∙ ap header_number_lem h ∙ number),
+        inl (refl, sym (header_number s) ∙ ap fault_number h ∙ number),
         sym p ∙ r.1 ∙ ap (λ (x : ℕ). place_given s x 0) number,
       )
-  refusal_by place (Header.Of n) h e p =
+  refusal_by place (Ok n) h e p =
       let r = read_header s budget n h in
       let g = file_stops s budget n h in
       let o : Orders = orders_from budget s 3 in
@@ -312,13 +292,11 @@ module _ (s : List ℕ) (budget k at : ℕ) (some : k ≢ 0) where
         r.place ∙ ap (λ (x : Orders). place_of x.answer x.place (length s)) o ∙ ap (λ (x : ℕ). place_given s x at) z,
       )
 
-  order_answers : (cs : List Call) → Comes s budget at cs → length cs < budget → (o : Order) → order_at s at ≡ o → order_number_lem o ≡ k → Answers
-  order_answers cs c l Order.End e z = absurd (some (sym z))
-  order_answers cs c l (Order.Enter p v) e z = absurd (some (sym z))
-  order_answers cs c l (Order.Step p) e z = absurd (some (sym z))
-  order_answers cs c l (Order.Crash p) e z = absurd (some (sym z))
-  order_answers cs c l (Order.Fault a) e z =
-      answers a cs c (from_order (budget - length cs) (budget - (length cs + 1)) s at (Order.Fault a) (omega arith) e) z
+  order_answers : (cs : List Call) → Comes s budget at cs → length cs < budget → (o : Found Order) → order_at s at ≡ o → fault_number o ≡ k → Answers
+  order_answers cs c l (Ok None) e z = absurd (some (sym z))
+  order_answers cs c l (Ok (Some o)) e z = absurd (some (sym z))
+  order_answers cs c l (Err a) e z =
+      answers a cs c (from_order (budget - length cs) (budget - (length cs + 1)) s at (Err a) (omega arith) e) z
 
   record_answers : (cs : List Call) → Holds s at cs → length cs ≤ budget → at < length s → (b : Bool) → eqb (length cs) budget ≡ b
       → cond b 13 (first_that (order_lines s at)) ≡ k → Answers
@@ -337,33 +315,31 @@ calls_before s budget at cs h l i n = go (order_at s at) refl
     ne : eqb (length cs) budget ≡ false
     ne = ne_eqb (length cs) budget (λ z. omega arith)
 
-    no : order_number_lem (order_at s at) ≡ 0 → ⊥
+    no : fault_number (order_at s at) ≡ 0 → ⊥
     no e = n (ap (λ (b : Bool). cond b 13 (first_that (order_lines s at))) ne ∙ sym (order_number s at i) ∙ e)
 
-    go : (o : Order) → order_at s at ≡ o → calls_of s budget ≡ cs
-    go (Order.Fault a) e =
+    go : (o : Found Order) → order_at s at ≡ o → calls_of s budget ≡ cs
+    go (Err a) e =
         let c = comes budget h (omega arith) in
         (read_header s budget c.header.0 c.header.1).calls
         ∙ ap (λ (x : Orders). x.calls)
-        (c.same ∙ ap (after cs) (from_order (budget - length cs) (budget - (length cs + 1)) s at (Order.Fault a) (omega arith) e))
+        (c.same ∙ ap (after cs) (from_order (budget - length cs) (budget - (length cs + 1)) s at (Err a) (omega arith) e))
         ∙ append-nil cs
-    go Order.End e = absurd (no (ap order_number_lem e))
-    go (Order.Enter p v) e = absurd (no (ap order_number_lem e))
-    go (Order.Step p) e = absurd (no (ap order_number_lem e))
-    go (Order.Crash p) e = absurd (no (ap order_number_lem e))
+    go (Ok None) e = absurd (no (ap fault_number e))
+    go (Ok (Some o)) e = absurd (no (ap fault_number e))
 
 -- and of a refused header there are none
 pub no_calls_of : (s : List ℕ) (budget : ℕ) → first_that (header_lines s) ≢ 0 → calls_of s budget ≡ []
 no_calls_of s budget n = go (header_of s) refl
   where
-    go : (h : Header) → header_of s ≡ h → calls_of s budget ≡ []
-    go (Header.Fault a) e = ap (calls_by s budget) e
-    go (Header.Of m) e = absurd (n (header_whole s m e))
+    go : (h : Result ℕ FileAnswer) → header_of s ≡ h → calls_of s budget ≡ []
+    go (Err a) e = ap (calls_by s budget) e
+    go (Ok m) e = absurd (n (header_whole s m e))
 
-header_answers : (s : List ℕ) (budget k : ℕ) → k ≢ 0 → (h : Header) → header_of s ≡ h → header_number_lem h ≡ k
+header_answers : (s : List ℕ) (budget k : ℕ) → k ≢ 0 → (h : Result ℕ FileAnswer) → header_of s ≡ h → fault_number h ≡ k
     → (file_number (replay_of s budget).answer ≡ k) × ((replay_of s budget).place ≡ place_given s k 0)
-header_answers s budget k n (Header.Of m) e f = absurd (n (sym f))
-header_answers s budget k n (Header.Fault a) e f =
+header_answers s budget k n (Ok m) e f = absurd (n (sym f))
+header_answers s budget k n (Err a) e f =
     let r = faulty_header s budget a e in (ap file_number r.0 ∙ f, r.1 ∙ ap (λ (x : ℕ). place_given s x 0) f)
 
 refused_at_lem : (s : List ℕ) (budget k at : ℕ) → k ≢ 0 → Refusal s budget k at
@@ -384,14 +360,14 @@ refused_exactly s budget k place n = (
 whole_why : (s : List ℕ) (k : ℕ) (o : Orders) → Why s k o → file_number o.answer ≡ 0 → o.place ≡ length s
 whole_why s k o (whole w q) z = q
 whole_why s k o (spent w q l) z = absurd (omega (arith, ap file_number w))
-whole_why s k o (fault a w q l f) z = absurd (told s o.place (Order.Fault a) q f (ap file_number (sym w) ∙ z))
+whole_why s k o (fault a w q l f) z = absurd (told s o.place (Err a) q f (ap file_number (sym w) ∙ z))
 
 -- a file whose header is read
-read_zero : (s : List ℕ) (budget : ℕ) → file_number (replay_of s budget).answer ≡ 0 → (h : Header) → header_of s ≡ h → (n : ℕ) × (header_of s ≡ Header.Of n)
-read_zero s budget z (Header.Of n) e = (n, e)
-read_zero s budget z (Header.Fault a) e = absurd (header_refused s a e (sym (ap file_number (faulty_header s budget a e).0) ∙ z))
+read_zero : (s : List ℕ) (budget : ℕ) → file_number (replay_of s budget).answer ≡ 0 → (h : Result ℕ FileAnswer) → header_of s ≡ h → (n : ℕ) × (header_of s ≡ Ok n)
+read_zero s budget z (Ok n) e = (n, e)
+read_zero s budget z (Err a) e = absurd (header_refused s a e (sym (ap file_number (faulty_header s budget a e).0) ∙ z))
 
-pub zero_read : (s : List ℕ) (budget : ℕ) → file_number (replay_of s budget).answer ≡ 0 → (n : ℕ) × (header_of s ≡ Header.Of n)
+pub zero_read : (s : List ℕ) (budget : ℕ) → file_number (replay_of s budget).answer ≡ 0 → (n : ℕ) × (header_of s ≡ Ok n)
 zero_read s budget z = read_zero s budget z (header_of s) refl
 
 -- all of it was read

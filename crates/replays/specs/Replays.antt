@@ -1,13 +1,12 @@
 -- What replaying an order file is (document 01, "Files"): the file is read into a list of calls, and the calls are made on a fresh machine.
-use Rattle.std.specs.Prelude.{ℕ, zero, suc, ◌+◌, cond, List, [], ◌∷◌, leb, length}
+use Rattle.std.specs.Prelude.{ℕ, zero, suc, ◌+◌, cond, List, [], ◌∷◌, leb, length, Some, None, Result, Ok, Err}
 use Rattle.rules.specs.Calls.{fresh}
 use Rattle.history.specs.Runs.{Call, enters, steps, crashes, runs, all_steps, refused_calls}
 use Rattle.formats.specs.declared.FileAnswer.{FileAnswer}
 use Rattle.formats.specs.declared.FileAnswer.TheVariants.{Whole, BudgetSpent}
-use Rattle.formats.specs.declared.Header.{Header}
 use Rattle.formats.specs.declared.Order.{Order}
 use Rattle.formats.specs.Numbers.{place_of}
-use Rattle.formats.specs.Records.{header_of, order_at}
+use Rattle.formats.specs.Records.{header_of, Found, order_at}
 use Rattle.replays.specs.declared.Replayed.{Replayed}
 
 -- What a file holds: the calls up to a place, and why the reading ended there. The place is that of the record that was not taken.
@@ -22,13 +21,22 @@ ended a at = record { answer = a; place = at; calls = [] }
 abbrev pub then : Call → Orders → Orders
 then c o = record { answer = o.answer; place = o.place; calls = c ∷ o.calls }
 
+-- the call that an order asks for, and how many bytes its record has
+abbrev pub call_of : Order → Call
+call_of (Order.Enter p v) = enters p v
+call_of (Order.Step p) = steps p
+call_of (Order.Crash p) = crashes p
+
+abbrev pub width : Order → ℕ
+width (Order.Enter p v) = 7
+width (Order.Step p) = 3
+width (Order.Crash p) = 3
+
 -- What stands at a place, and what follows it there: "the offset of the record's mark, or the file's length when all was read."
-abbrev pub order_then : List ℕ → ℕ → Order → (ℕ → Orders) → Orders
-order_then s at Order.End next = ended Whole (length s)
-order_then s at (Order.Fault a) next = ended a at
-order_then s at (Order.Enter p v) next = then (enters p v) (next (at + 7))
-order_then s at (Order.Step p) next = then (steps p) (next (at + 3))
-order_then s at (Order.Crash p) next = then (crashes p) (next (at + 3))
+abbrev pub order_then : List ℕ → ℕ → Found Order → (ℕ → Orders) → Orders
+order_then s at (Ok None) next = ended Whole (length s)
+order_then s at (Err a) next = ended a at
+order_then s at (Ok (Some o)) next = then (call_of o) (next (at + width o))
 
 -- The orders from a place on, with a budget. "If bytes are left and the budget is used up, 13 comes before any look at the next record."
 unfoldable pub orders_from : ℕ → List ℕ → ℕ → Orders
@@ -53,24 +61,24 @@ abbrev pub no_replay : List ℕ → FileAnswer → Replayed
 no_replay s a = record { answer = a; place = place_of a 0 (length s); taken = 0; accesses = 0; refused = 0; machine = fresh 1 }
 
 -- "The header is no order; it is read first, at every budget, and its own faults come before 13."
-abbrev pub replay_by : List ℕ → ℕ → Header → Replayed
-replay_by s budget (Header.Of n) = replayed s n (orders_from budget s 3)
-replay_by s budget (Header.Fault a) = no_replay s a
+abbrev pub replay_by : List ℕ → ℕ → Result ℕ FileAnswer → Replayed
+replay_by s budget (Ok n) = replayed s n (orders_from budget s 3)
+replay_by s budget (Err a) = no_replay s a
 
 unfoldable pub replay_of : List ℕ → ℕ → Replayed
 replay_of s budget = replay_by s budget (header_of s)
 
 -- the calls that are made, and of how many processes the machine is
-abbrev pub calls_by : List ℕ → ℕ → Header → List Call
-calls_by s budget (Header.Of n) = (orders_from budget s 3).calls
-calls_by s budget (Header.Fault a) = []
+abbrev pub calls_by : List ℕ → ℕ → Result ℕ FileAnswer → List Call
+calls_by s budget (Ok n) = (orders_from budget s 3).calls
+calls_by s budget (Err a) = []
 
 abbrev pub calls_of : List ℕ → ℕ → List Call
 calls_of s budget = calls_by s budget (header_of s)
 
-abbrev pub processes_by : Header → ℕ
-processes_by (Header.Of n) = n
-processes_by (Header.Fault a) = 1
+abbrev pub processes_by : Result ℕ FileAnswer → ℕ
+processes_by (Ok n) = n
+processes_by (Err a) = 1
 
 abbrev pub processes_of : List ℕ → ℕ
 processes_of s = processes_by (header_of s)

@@ -5,4 +5,4 @@ use Rattle.orders.proofs.fresh.Goals as goal
 
 pub returns : goal.returns
 unfolding new_of
-returns c = simp (c.new-made.ensures, le-leb _ _ c.requires.0, le-leb _ _ c.requires.1)
+returns c = simp (c.new.ensures, le-leb _ _ c.requires.0, le-leb _ _ c.requires.1)

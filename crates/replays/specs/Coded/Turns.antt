@@ -1,12 +1,15 @@
 -- Replaying order by order, as the code does it: the three counts and the state after the orders taken so far.
-use Rattle.std.specs.Prelude.{ℕ, ◌+◌, ◌≤◌, ◌<◌, cond, List, eqb, length}
+use Rattle.std.specs.Prelude.{ℕ, ◌+◌, ◌≤◌, ◌<◌, Bool, cond, List, leb, eqb, length, None, Ok, Err}
 use Rattle.sets.specs.Members.{tick}
 use Rattle.rules.specs.declared.Answer.{Answer}
 use Rattle.rules.specs.declared.Machine.{Machine}
 use Rattle.rules.specs.Calls.{number_of}
-use Rattle.history.specs.Runs.{Call, answer, from, tally, is_step, accepted_step, is_refused}
+use Rattle.history.specs.Runs.{Call, answer, from, tally, accepted_step, is_refused}
 use Rattle.formats.specs.declared.FileAnswer.{FileAnswer}
+use Rattle.formats.specs.declared.FileAnswer.TheVariants.{BudgetSpent}
+use Rattle.formats.specs.declared.Order.{Order}
 use Rattle.formats.specs.Numbers.{place_of}
+use Rattle.formats.specs.Records.{Found, order_at}
 use Rattle.replays.specs.declared.Counts.{Counts}
 use Rattle.replays.specs.declared.Replayed.{Replayed}
 use Rattle.replays.specs.Replays.{Orders}
@@ -15,18 +18,22 @@ use Rattle.replays.specs.Replays.{Orders}
 abbrev pub none : Counts
 none = record { taken = 0; accesses = 0; refused = 0 }
 
--- one order more, which the machine has answered; `step` is 1 for a step and 0 otherwise
-abbrev pub counted : Counts → Answer → ℕ → Counts
-counted k a step =
+-- one call more, which the machine has answered
+abbrev pub counted : Counts → Call → Answer → Counts
+counted k c a =
     record {
       taken = k.taken + 1;
-      accesses = cond (eqb (number_of a) 0) (k.accesses + step) k.accesses;
-      refused = cond (eqb (number_of a) 0) k.refused (k.refused + 1);
+      accesses = k.accesses + tick (accepted_step c (eqb (number_of a) 0));
+      refused = k.refused + tick (is_refused c (eqb (number_of a) 0));
     }
 
 -- the counts after one call more on a machine
 abbrev pub took : Counts → Machine → Call → Counts
-took k m c = counted k (answer m c).answer (tick (is_step c))
+took k m c = counted k c (answer m c).answer
+
+-- what is next at a place: the record that stands there, or 13 before any look if bytes are left and the budget is spent
+abbrev pub next_order : List ℕ → ℕ → Bool → Found Order
+next_order s at spent = cond spent (cond (leb (length s) at) (Ok None) (Err BudgetSpent)) (order_at s at)
 
 -- where the replay of a file ends
 abbrev pub ends : List ℕ → FileAnswer → ℕ → Counts → Machine → Replayed
