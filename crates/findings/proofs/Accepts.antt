@@ -26,11 +26,11 @@ use Rattle.findings.proofs.Agreement.{agree_swapped}
 -- Parts of an empty list are empty, and empty parts make an empty list.
 pub empty_left : {A : Type 0} (l m : List A) → l ++ m ≡ [] → l ≡ []
 empty_left [] m e = refl
-empty_left (x ∷ xs) m e = let z : ◌≡◌ {A = ℕ} 0 1 = cc in absurd (omega arith)
+empty_left (x ∷ xs) m e = cc
 
 pub empty_right : {A : Type 0} (l m : List A) → l ++ m ≡ [] → m ≡ []
 empty_right [] m e = e
-empty_right (x ∷ xs) m e = let z : ◌≡◌ {A = ℕ} 0 1 = cc in absurd (omega arith)
+empty_right (x ∷ xs) m e = cc
 
 pub joined_parts : {A : Type 0} (a k : ℕ) (f : ℕ → List A) → joined a k f ≡ [] → (i : ℕ) → a ≤ i → i < a + k → f i ≡ []
 unfolding joined
@@ -51,7 +51,7 @@ joined_empty a (suc k) f h =
 -- A view's own process.
 one_empty : (o l : Bool) (i : ℕ) → map (λ k. found k i 0) (only (o && not l) LacksItself) ≡ [] → o ≡ true → l ≡ true
 one_empty true true i e o = refl
-one_empty true false i e o = let z : ◌≡◌ {A = ℕ} 0 1 = cc in absurd (omega arith)
+one_empty true false i e o = cc
 one_empty false l i e o = absurd (false≢true o)
 
 empty_one : (o l : Bool) (i : ℕ) → (o ≡ true → l ≡ true) → map (λ k. found k i 0) (only (o && not l) LacksItself) ≡ []
@@ -66,12 +66,12 @@ pub record Clean (x y : View) (i j : ℕ) : Type 0 where
 
 clean_by : (a p q f : Bool) → only (not a) Disagree ++ only (not p && not q) Apart ++ only (f && not (p && q)) Unlike ≡ []
     → (a ≡ true) × ((p ≡ true) ⊎ (q ≡ true)) × (f ≡ true → (p ≡ true) × (q ≡ true))
-clean_by false p q f e = let z : ◌≡◌ {A = ℕ} 0 1 = cc in absurd (omega arith)
-clean_by true false false f e = let z : ◌≡◌ {A = ℕ} 0 1 = cc in absurd (omega arith)
+clean_by false p q f e = absurd (cc)
+clean_by true false false f e = absurd (cc)
 clean_by true true true f e = (refl, inl refl, λ g. (refl, refl))
-clean_by true true false true e = let z : ◌≡◌ {A = ℕ} 0 1 = cc in absurd (omega arith)
+clean_by true true false true e = absurd (cc)
 clean_by true true false false e = (refl, inl refl, λ g. absurd (false≢true g))
-clean_by true false true true e = let z : ◌≡◌ {A = ℕ} 0 1 = cc in absurd (omega arith)
+clean_by true false true true e = absurd (cc)
 clean_by true false true false e = (refl, inr refl, λ g. absurd (false≢true g))
 
 by_clean : (a p q f : Bool) → a ≡ true → ((p ≡ true) ⊎ (q ≡ true)) → (f ≡ true → (p ≡ true) × (q ≡ true))
@@ -97,7 +97,7 @@ unclean x y i j c = by_clean (agree x y) (inside x y) (inside y x) (facing x y i
 
 map_empty : {A B : Type 0} (f : A → B) (l : List A) → map f l ≡ [] → l ≡ []
 map_empty f [] e = refl
-map_empty f (x ∷ xs) e = let z : ◌≡◌ {A = ℕ} 0 1 = cc in absurd (omega arith)
+map_empty f (x ∷ xs) e = cc
 
 pub pair_empty : (v : Views) (i j : ℕ) → Has v i → Has v j → of_pair v i j ≡ [] → breaks (view_in v i) (view_in v j) i j ≡ []
 unfolding of_pair
