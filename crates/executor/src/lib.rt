@@ -10,10 +10,8 @@ use rules::{Answer, Called, Machine};
 pub fn slot(m: &mut Machine, p: u32) -> Answer
     ensures { (result ≡ (step_of m.old p).answer) × (m.new ≡ (step_of m.old p).machine) }
 {
-    let before = *m;
-    let after = machine::step(before, p);
-    let next = after.machine;
-    *m = next;
+    let after = machine::step(*m, p);
+    *m = after.machine;
     after.answer
 }
 

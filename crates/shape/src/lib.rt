@@ -148,19 +148,18 @@ impl Columns {
         }
     }
 
-    // Every row; those who have written it are those who have written the row below, and those whose lowest row it is.
+    // Every row, with no way out either; those who have written it are those who have written the row below, and those whose lowest row it is.
     fn rows_good(&self, m: &Machine) -> bool
         ensures { result ≡ rows_good m.now.n m.now.filled m.now.values self.now.low self.now.own }
     {
+        let mut ok = true;
         let mut written = 0;
-        for i in 0..32u32 {
-            let x = i + 1;
-            written |= self.buckets[x as usize];
-            if !self.row_good(m, x, written) {
-                return false;
-            }
+        for i in 0..32usize {
+            written |= self.buckets[i + 1];
+            let good = self.row_good(m, (i + 1) as u32, written);
+            ok = good & ok;
         }
-        true
+        ok
     }
 }
 

@@ -1,34 +1,30 @@
--- A look as the code makes it.
-use mathlib.Core.Path.{◌≡◌, sym, ap}
-use mathlib.Core.Bool.{Bool, true, false, ◌&&◌, cond, true≢false}
-use mathlib.Core.List.{List}
-use Prim.Native.Nat.{ℕ}
-use lib.Dec.{leb}
+-- How a process that was found stands.
+use mathlib.Core.Path.{◌≡◌, ap, ◌∙◌}
+use Prim.Native.Nat.{ℕ, ◌≤◌}
+use Rattle.std.specs.Prelude.{Ok}
+use Rattle.rules.specs.declared.Stage.{Stage}
+use Rattle.rules.specs.declared.Stage.TheVariants.{Running, Finished, Crashed}
+use Rattle.rules.specs.declared.Process.{Process}
 use Rattle.rules.specs.declared.Machine.{Machine}
-use Rattle.rules.specs.declared.Answer.{Answer}
-use Rattle.rules.specs.declared.Answer.TheVariants.{Done, NotShaped, NoProcess}
-use Rattle.rules.specs.declared.Standing.{Standing}
-use Rattle.rules.specs.declared.Sight.{Sight}
-use Rattle.rules.specs.Stands.{process_of, stage_of}
-use Rattle.rules.specs.Shape.{shaped}
-use Rattle.rules.specs.Calls.{values_of, looked, blindly, unseen, look_of}
-use Rattle.rules.proofs.Laws.Looks.{no_values}
-use Rattle.moves.specs.declared.Asked.{Asked}
+use Rattle.rules.specs.Stands.{row_of}
+use Rattle.rules.specs.Shape.{ShapedStage, Going}
 use Rattle.moves.specs.Coded.Asked.{asked_of}
-use Rattle.moves.proofs.Laws.{answer_in, is_record}
+use Rattle.moves.proofs.Laws.{asked_valid, standing}
 
-pub refused-look : (m : Machine) (p : ℕ) (a : Answer) → asked_of m p ≡ Asked.Refused a → look_of m p ≡ unseen a
-unfolding look_of
-refused-look m p a = go (shaped m) (leb 1 p && leb p m.n)
-  where
-    go : (s r : Bool) → cond s (cond r (Asked.Record (process_of m p)) (Asked.Refused NoProcess)) (Asked.Refused NotShaped) ≡ Asked.Refused a
-        → cond s (cond r (looked m (stage_of m p)) (unseen NoProcess)) (unseen NotShaped) ≡ unseen a
-    go true true e = absurd (true≢false (ap is_record e))
-    go true false e = ap (λ (f : Asked). unseen (answer_in f)) e
-    go false r e = ap (λ (f : Asked). unseen (answer_in f)) e
+-- it has a level
+pub record AtLevel (n x : ℕ) : Type 0 where
+  pub low : 1 ≤ x
+  pub high : x ≤ n
 
--- a look without a view shows no values
-pub looked-blindly : (m : Machine) (s : Standing) (x k : ℕ)
-    → blindly Done s x k ≡ record { answer = Done; standing = s; level = x; accesses = k; view = 0; values = values_of m x 0 }
-looked-blindly m s x k =
-    ap {B = Sight} (λ (v : List ℕ). record { answer = Done; standing = s; level = x; accesses = k; view = 0; values = v }) (sym (no_values m.values x))
+module _ (m : Machine) (p : ℕ) (P : Process) (e : Ok P ≡ asked_of m p) where
+  stands : (s : Stage) → P.stage ≡ s → ShapedStage m.n (row_of m) s
+  stands s q = let v = asked_valid m p P e in standing m p v.0 s (ap (λ (P : Process). P.stage) v.1 ∙ q)
+
+  pub found_running : (x k f : ℕ) → P.stage ≡ Running x k f → Going m.n (row_of m) x k f
+  found_running x k f q = stands (Running x k f) q
+
+  pub found_crashed : (x k f : ℕ) → P.stage ≡ Crashed x k f → Going m.n (row_of m) x k f
+  found_crashed x k f q = stands (Crashed x k f) q
+
+  pub found_finished : (x w : ℕ) → P.stage ≡ Finished x w → AtLevel m.n x
+  found_finished x w q = let s = stands (Finished x w) q in record { low = s.low; high = s.high }

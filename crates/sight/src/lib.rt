@@ -1,11 +1,9 @@
 // The look at a process: what its record says, its accesses, and its view.
 #![tactic(auto)]
 
-ghost use Rattle.std.specs.Prelude.{◌≡◌, cond, ◌+◌, ◌-◌, ◌*◌, ◌≤◌};
-ghost use Rattle.sets.specs.Members.{has};
+ghost use Rattle.std.specs.Prelude.{◌≡◌, ◌+◌, ◌-◌, ◌*◌, ◌≤◌};
 ghost use Rattle.rules.specs.Calls.{look_of, blindly, row_values};
 
-use moves::Asked;
 use rules::{Answer, Machine, Sight, Stage, Standing};
 
 // A look that shows no view.
@@ -24,78 +22,63 @@ fn blind(answer: Answer, standing: Standing, level: u32, accesses: u32) -> Sight
 
 // Rule 7.
 fn accesses(n: u32, level: u32, made: u32) -> u32
-    requires { (n ≤ 32) × (level ≤ n) × (made ≤ n + 1) }
+    requires few { n ≤ 32 }
+    requires high { level ≤ n }
+    requires most { made ≤ n + 1 }
     ensures { result ≡ (n + 1) * (n - level) + made }
 {
     (n + 1) * (n - level) + made
 }
 
-fn kept(view: u32, i: u32, value: u32) -> u32
-    ensures { result ≡ cond (has view i) value 0 }
-{
-    if sets::has(view, i) {
-        return value;
-    }
-    0
-}
-
 // The values of a view, out of the row of its level.
-fn view_values(values: &[u32; 1024], level: u32, view: u32) -> [u32; 32]
-    requires { (1 ≤ level) × (level ≤ 32) }
-    ensures { result ≡ row_values values.now level view 1 32 }
+#[tactic(auto, using(crate::proofs::Values::values_all))]
+fn view_values(m: &Machine, level: u32, view: u32) -> [u32; 32]
+    requires low { 1 ≤ level }
+    requires high { level ≤ 32 }
+    ensures { result ≡ row_values m.now.values level view 1 32 }
 {
     let base = (32 * (level - 1)) as usize;
-    let mut out = [0u32; 32];
+    let mut values = [0; 32];
     for i in 0..32usize {
-        out[i] = kept(view, (i + 1) as u32, values[base + i]);
+        values[i] = if sets::has(view, (i + 1) as u32) {
+            m.values[base + i]
+        } else {
+            0
+        };
     }
-    out
+    values
 }
 
 // What a process's record says, and its view; refuses 1, 2.
+#[tactic(auto, using(moves::proofs::Laws::most, rules::proofs::Laws::Looks::no_values, crate::proofs::Looks::found_running, crate::proofs::Looks::found_crashed, crate::proofs::Looks::found_finished), unfolding(rules::specs::Calls::look_of))]
 pub fn look(m: Machine, p: u32) -> Sight
     ensures { result ≡ look_of m p }
 {
-    let n = m.n;
-    match moves::find(n, &m.filled, &m.values, m.processes, p) {
-        Asked::Refused(answer) => blind(answer, Standing::Absent, 0, 0),
-        Asked::Record(process) => {
-            let stage = process.stage;
-            match stage {
-                Stage::Absent => blind(Answer::Done, Standing::Absent, 0, 0),
-                Stage::Running {
-                    level,
-                    made,
-                    found: _,
-                } => blind(
-                    Answer::Done,
-                    Standing::Running,
-                    level,
-                    accesses(n, level, made),
-                ),
-                Stage::Finished { level, view } => {
-                    let values = view_values(&m.values, level, view);
-                    let made = accesses(n, level, n + 1);
-                    Sight {
-                        answer: Answer::Done,
-                        standing: Standing::Finished,
-                        level,
-                        accesses: made,
-                        view,
-                        values,
-                    }
-                }
-                Stage::Crashed {
-                    level,
-                    made,
-                    found: _,
-                } => blind(
-                    Answer::Done,
-                    Standing::Crashed,
-                    level,
-                    accesses(n, level, made),
-                ),
-            }
-        }
+    let process = match moves::find(&m, p) {
+        Ok(process) => process,
+        Err(answer) => return blind(answer, Standing::Absent, 0, 0),
+    };
+    match process.stage {
+        Stage::Absent => blind(Answer::Done, Standing::Absent, 0, 0),
+        Stage::Running { level, made, .. } => blind(
+            Answer::Done,
+            Standing::Running,
+            level,
+            accesses(m.n, level, made),
+        ),
+        Stage::Crashed { level, made, .. } => blind(
+            Answer::Done,
+            Standing::Crashed,
+            level,
+            accesses(m.n, level, made),
+        ),
+        Stage::Finished { level, view } => Sight {
+            answer: Answer::Done,
+            standing: Standing::Finished,
+            level,
+            accesses: accesses(m.n, level, m.n + 1),
+            view,
+            values: view_values(&m, level, view),
+        },
     }
 }

@@ -2,4 +2,4 @@
 use Rattle.alone.proofs.+descend.Given as goal
 
 abbrev pub decreases-descend : goal.decreases-descend
-decreases-descend l = l.level
+decreases-descend l = l.runner.level

@@ -1,9 +1,0 @@
--- `kept` meets its contract by its one test.
-use mathlib.Core.Path.{sym, ◌∙◌}
-use Rattle.sight.proofs.kept.Goals as goal
-
-pub returns-then-has : goal.returns-then-has
-returns-then-has c = rw (sym c.has.ensures ∙ c.if-has.true)
-
-pub returns : goal.returns
-returns c = rw (sym c.has.ensures ∙ c.if-has.false)
