@@ -1,6 +1,5 @@
--- Laws of the stored lines, and that each text fits its buffer.
+-- How long the lines are, laws of the pairs and of the processes' lines, and that the public contracts determine what is printed.
 pub mod Fits
-pub mod Fields
 pub mod Pairs
 pub mod Processes
 pub mod Determined

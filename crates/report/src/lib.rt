@@ -1,285 +1,238 @@
-// The printed output of both programs (document 01, "Printed output"), stored as bytes in a lent buffer.
+// The printed output of both programs (document 01, "Printed output"): each text is written on a page, and the page into a lent buffer.
 #![tactic(auto)]
 
-ghost use Rattle.std.specs.Prelude.{◌≡◌, [], ◌∷◌, ◌+◌, ◌*◌, ◌≤◌, length, false};
+ghost use Rattle.std.specs.Prelude.{◌≡◌, [], ◌∷◌, ◌++◌, ◌+◌, ◌*◌, ◌≤◌, length, false};
 ghost use Rattle.text.specs.Decimal.{decimal};
 ghost use Rattle.output.specs.Lines.{field, fields, line, verdict_line, verdict_text, stage_word, comma, pair, pairs_from, view, sight_line};
 ghost use Rattle.output.specs.Lines.{process_line, partaking, last_line, run_line, replay_lines, replay_text};
-ghost use Rattle.sets.specs.Members.{tick};
-ghost use Rattle.rules.specs.Stands.{entered};
 ghost use Rattle.rules.specs.Shape.{Shaped};
 ghost use Rattle.text.specs.Parts.{joined};
-ghost use Rattle.text.specs.Stores.{Room, Stored, over};
+ghost use Rattle.text.specs.Stores.{over};
 
+use arrayvec::ArrayString;
 use findings::FileVerdict;
+use itoa::Buffer;
 use replays::Replayed;
 use rules::{Machine, Sight, Stage, Standing};
 
-// A byte at a place; answers the place after it, as every function here that stores.
-fn put_byte(out: &mut [u8], at: usize, b: u8) -> usize
-    requires { Room out.old at (b ∷ []) }
-    ensures { Stored out.old at (b ∷ []) out.new result }
-{
-    out[at] = b;
-    at + 1
-}
+// The most bytes that both programs take.
+const MOST: usize = 65535;
 
-// A word.
-fn put_word(out: &mut [u8], at: usize, word: &[u8]) -> usize
-    requires { Room out.old at word.now }
-    ensures { Stored out.old at word.now out.new result }
+// A number in decimal digits.
+#[tactic(auto, using(text::proofs::Decimal::printed_decimal))]
+fn put_number<const N: usize>(page: &mut ArrayString<N>, n: usize)
+    requires { length page.old.bytes + length (decimal n) ≤ N }
+    ensures { page.new.bytes ≡ page.old.bytes ++ decimal n }
 {
-    let mut i: usize = 0;
-    while i < word.len() {
-        out[at + i] = word[i];
-        i += 1;
-    }
-    at + i
-}
-
-// A number in decimal digits: those of a tenth of it, then its last.
-fn put_decimal(out: &mut [u8], at: usize, n: usize) -> usize
-    requires { Room out.old at (decimal n) }
-    ensures { Stored out.old at (decimal n) out.new result }
-{
-    if n < 10 {
-        return put_byte(out, at, 48 + (n as u8));
-    }
-    let place = put_decimal(out, at, n / 10);
-    put_byte(out, place, 48 + ((n % 10) as u8))
+    let mut digits = Buffer::new();
+    page.push_str(digits.format(n));
 }
 
 // A space, and a number after it.
-fn put_field(out: &mut [u8], at: usize, n: usize) -> usize
-    requires { Room out.old at (field n) }
-    ensures { Stored out.old at (field n) out.new result }
+fn put_field<const N: usize>(page: &mut ArrayString<N>, n: usize)
+    requires { length page.old.bytes + length (field n) ≤ N }
+    ensures { page.new.bytes ≡ page.old.bytes ++ field n }
 {
-    let place = put_byte(out, at, 32);
-    put_decimal(out, place, n)
+    page.push(' ');
+    put_number(page, n);
 }
 
-// Numbers, each after a space.
-fn put_fields(out: &mut [u8], at: usize, numbers: &[usize]) -> usize
-    requires { Room out.old at (fields numbers.now) }
-    ensures { Stored out.old at (fields numbers.now) out.new result }
+// A line of a word and numbers, each after a space.
+fn put_line<const N: usize>(page: &mut ArrayString<N>, word: &str, numbers: &[usize])
+    requires { length page.old.bytes + length (line (word.now ∷ fields numbers.now ∷ [])) ≤ N }
+    ensures { page.new.bytes ≡ page.old.bytes ++ line (word.now ∷ fields numbers.now ∷ []) }
 {
-    let mut place = at;
-    let mut i: usize = 0;
-    while i < numbers.len() {
-        place = put_field(out, place, numbers[i]);
-        i += 1;
+    page.push_str(word);
+    for n in numbers {
+        put_field(page, *n);
     }
-    place
-}
-
-// A line of a word and numbers.
-fn put_line(out: &mut [u8], at: usize, word: &[u8], numbers: &[usize]) -> usize
-    requires { Room out.old at (line (word.now ∷ fields numbers.now ∷ [])) }
-    ensures { Stored out.old at (line (word.now ∷ fields numbers.now ∷ [])) out.new result }
-{
-    let a = put_word(out, at, word);
-    let b = put_fields(out, a, numbers);
-    put_byte(out, b, 10)
+    page.push('\n');
 }
 
 // The verdict's line.
-fn put_verdict(out: &mut [u8], at: usize, v: FileVerdict) -> usize
-    requires { Room out.old at (verdict_line v) }
-    ensures { Stored out.old at (verdict_line v) out.new result }
+#[tactic(auto, unfolding(output::specs::Lines::verdict_line))]
+fn put_verdict<const N: usize>(page: &mut ArrayString<N>, v: &FileVerdict)
+    requires { length page.old.bytes + length (verdict_line v.now) ≤ N }
+    ensures { page.new.bytes ≡ page.old.bytes ++ verdict_line v.now }
 {
-    let numbers = [v.number as usize, v.place, v.i as usize, v.j as usize];
-    put_line(out, at, b"verdict", &numbers)
-}
-
-// What the program `verdict` prints of its input; answers how many bytes that is.
-pub fn verdict_text(bytes: &[u8], out: &mut [u8; 64]) -> usize
-    ensures value { (result ≡ length (verdict_text bytes.now)) × (result ≤ length out.new) }
-    ensures out_after { out.new ≡ over (verdict_text bytes.now) out.old }
-{
-    if 65535 < bytes.len() {
-        return put_word(out, 0, b"too long\n");
-    }
-    let v = checker::verdict(bytes);
-    put_verdict(out, 0, v)
+    put_line(
+        page,
+        "verdict",
+        &[v.number as usize, v.place, v.i as usize, v.j as usize],
+    );
 }
 
 // A stage's word, after a space.
-fn put_stage(out: &mut [u8], at: usize, s: Standing) -> usize
-    requires { Room out.old at (stage_word s) }
-    ensures { Stored out.old at (stage_word s) out.new result }
+fn stage_word(s: Standing) -> &'static str
+    ensures { result.now ≡ stage_word s }
 {
     match s {
-        Standing::Absent => put_word(out, at, b" absent"),
-        Standing::Running => put_word(out, at, b" running"),
-        Standing::Finished => put_word(out, at, b" finished"),
-        Standing::Crashed => put_word(out, at, b" crashed"),
+        Standing::Absent => " absent",
+        Standing::Running => " running",
+        Standing::Finished => " finished",
+        Standing::Crashed => " crashed",
     }
 }
 
-// A comma, if a pair stands before.
-fn put_comma(out: &mut [u8], at: usize, later: bool) -> usize
-    requires { Room out.old at (comma later) }
-    ensures { Stored out.old at (comma later) out.new result }
+// A process and its value, after a comma if a pair stands before.
+#[tactic(auto, unfolding(output::specs::Lines::pair))]
+fn put_pair<const N: usize>(page: &mut ArrayString<N>, later: bool, i: u32, v: u32)
+    requires { length page.old.bytes + length (pair later i v) ≤ N }
+    ensures { page.new.bytes ≡ page.old.bytes ++ pair later i v }
 {
-    if later { put_byte(out, at, 44) } else { at }
-}
-
-// A process and its value.
-fn put_pair(out: &mut [u8], at: usize, later: bool, i: u32, v: u32) -> usize
-    requires { Room out.old at (pair later i v) }
-    ensures { Stored out.old at (pair later i v) out.new result }
-{
-    let a = put_comma(out, at, later);
-    let b = put_decimal(out, a, i as usize);
-    let c = put_byte(out, b, 58);
-    put_decimal(out, c, v as usize)
+    if later {
+        page.push(',');
+    }
+    put_number(page, i as usize);
+    page.push(':');
+    put_number(page, v as usize);
 }
 
 // The pairs of a view, ascending.
-fn put_pairs(out: &mut [u8], at: usize, view: u32, values: [u32; 32]) -> usize
-    requires { Room out.old at (pairs_from false view values 1 32) }
-    ensures { Stored out.old at (pairs_from false view values 1 32) out.new result }
+fn put_pairs<const N: usize>(page: &mut ArrayString<N>, view: u32, values: &[u32; 32])
+    requires { length page.old.bytes + length (pairs_from false view values.now 1 32) ≤ N }
+    ensures { page.new.bytes ≡ page.old.bytes ++ pairs_from false view values.now 1 32 }
 {
-    let mut place = at;
     let mut later = false;
-    let mut i: usize = 0;
-    while i < 32 {
-        let v = values[i];
-        i += 1;
-        if sets::has(view, i as u32) {
-            place = put_pair(out, place, later, i as u32, v);
+    for i in 1..=32 {
+        if sets::has(view, i) {
+            put_pair(page, later, i, values[i as usize - 1]);
             later = true;
         }
-    }
-    place
-}
-
-// A view, or `-` of a process that has not finished.
-fn put_view(out: &mut [u8], at: usize, s: Standing, w: u32, values: [u32; 32]) -> usize
-    requires { Room out.old at (view s w values) }
-    ensures { Stored out.old at (view s w values) out.new result }
-{
-    match s {
-        Standing::Finished => put_pairs(out, at, w, values),
-        _ => put_byte(out, at, 45),
-    }
-}
-
-// A process's line.
-fn put_sight(out: &mut [u8], at: usize, i: u32, s: Sight) -> usize
-    requires { Room out.old at (sight_line i s) }
-    ensures { Stored out.old at (sight_line i s) out.new result }
-{
-    let standing = s.standing;
-    let values = s.values;
-    let a = put_word(out, at, b"p");
-    let b = put_field(out, a, i as usize);
-    let c = put_stage(out, b, standing);
-    let d = put_field(out, c, s.level as usize);
-    let e = put_field(out, d, s.accesses as usize);
-    let f = put_byte(out, e, 32);
-    let g = put_view(out, f, standing, s.view, values);
-    put_byte(out, g, 10)
-}
-
-// The lines of the processes, ascending.
-fn put_processes(out: &mut [u8], at: usize, m: Machine) -> usize
-    requires { (at + 485 * m.n ≤ length out.old) × Shaped m }
-    ensures { (result ≤ at + 485 * m.n) × Stored out.old at (joined 1 m.n (process_line m)) out.new result }
-{
-    let n = m.n;
-    let mut place = at;
-    let mut i: u32 = 0;
-    while i < n {
-        i += 1;
-        let s = sight::look(m, i);
-        place = put_sight(out, place, i, s);
-    }
-    place
-}
-
-// 1 for a process that has entered, and 0 for another.
-fn taking_part(s: Stage) -> usize
-    ensures { result ≡ tick (entered s) }
-{
-    match s {
-        Stage::Absent => 0,
-        Stage::Running {
-            level: _,
-            made: _,
-            found: _,
-        } => 1,
-        Stage::Finished { level: _, view: _ } => 1,
-        Stage::Crashed {
-            level: _,
-            made: _,
-            found: _,
-        } => 1,
     }
 }
 
 // How many processes take part.
-fn partaking(m: Machine) -> usize
-    requires { m.n ≤ 32 }
-    ensures { result ≡ partaking m }
+fn partaking(m: &Machine) -> usize
+    requires { m.now.n ≤ 32 }
+    ensures { result ≡ partaking m.now }
 {
-    let n = m.n as usize;
-    let mut sum: usize = 0;
-    let mut i: usize = 0;
-    while i < n {
-        let process = m.processes[i];
-        let stage = process.stage;
-        sum += taking_part(stage);
-        i += 1;
-    }
-    sum
+    m.processes[..m.n as usize]
+        .iter()
+        .filter(|p| p.stage != Stage::Absent)
+        .count()
 }
 
-// The last line.
-fn put_last(out: &mut [u8], at: usize, m: Machine) -> usize
-    requires { Room out.old at (last_line m) × (m.n ≤ 32) }
-    ensures { Stored out.old at (last_line m) out.new result }
+// A view, or `-` of a process that has not finished.
+fn put_view<const N: usize>(page: &mut ArrayString<N>, s: &Sight)
+    requires { length page.old.bytes + length (view s.now.standing s.now.view s.now.values) ≤ N }
+    ensures { page.new.bytes ≡ page.old.bytes ++ view s.now.standing s.now.view s.now.values }
 {
-    let numbers = [partaking(m)];
-    put_line(out, at, b"participants", &numbers)
+    match s.standing {
+        Standing::Finished => put_pairs(page, s.view, &s.values),
+        _ => page.push('-'),
+    }
+}
+
+// A process's line.
+#[tactic(auto, unfolding(output::specs::Lines::sight_line))]
+fn put_sight<const N: usize>(page: &mut ArrayString<N>, i: u32, s: &Sight)
+    requires { length page.old.bytes + length (sight_line i s.now) ≤ N }
+    ensures { page.new.bytes ≡ page.old.bytes ++ sight_line i s.now }
+{
+    page.push('p');
+    put_field(page, i as usize);
+    page.push_str(stage_word(s.standing));
+    put_field(page, s.level as usize);
+    put_field(page, s.accesses as usize);
+    page.push(' ');
+    put_view(page, s);
+    page.push_str("\n");
+}
+
+// The line of a process of the machine.
+#[tactic(auto, using(crate::proofs::Processes::look_line))]
+fn put_process<const N: usize>(page: &mut ArrayString<N>, m: &Machine, i: u32)
+    requires room { length page.old.bytes + 485 ≤ N }
+    requires shaped { Shaped m.now }
+    requires known { (1 ≤ i) × (i ≤ m.now.n) }
+    ensures line { page.new.bytes ≡ page.old.bytes ++ process_line m.now i }
+    ensures short { length page.new.bytes ≤ length page.old.bytes + 485 }
+{
+    put_sight(page, i, &sight::look(*m, i));
+}
+
+// The lines of the processes, ascending.
+fn put_processes<const N: usize>(page: &mut ArrayString<N>, m: &Machine)
+    requires room { length page.old.bytes + 485 * m.now.n ≤ N }
+    requires shaped { Shaped m.now }
+    ensures lines { page.new.bytes ≡ page.old.bytes ++ joined 1 m.now.n (process_line m.now) }
+    ensures short { length page.new.bytes ≤ length page.old.bytes + 485 * m.now.n }
+{
+    for i in 1..=m.n {
+        put_process(page, m, i);
+    }
 }
 
 // The first line.
-fn put_run(out: &mut [u8], at: usize, r: Replayed) -> usize
-    requires { Room out.old at (run_line r) }
-    ensures { Stored out.old at (run_line r) out.new result }
+#[tactic(auto, unfolding(output::specs::Lines::run_line))]
+fn put_run<const N: usize>(page: &mut ArrayString<N>, r: &Replayed)
+    requires { length page.old.bytes + length (run_line r.now) ≤ N }
+    ensures { page.new.bytes ≡ page.old.bytes ++ run_line r.now }
 {
-    let answer = r.answer;
-    let number = files::number(answer) as usize;
-    let numbers = [
-        number,
-        r.place,
-        r.taken as usize,
-        r.accesses as usize,
-        r.refused as usize,
-    ];
-    put_line(out, at, b"run", &numbers)
+    let number = files::number(r.answer) as usize;
+    put_line(
+        page,
+        "run",
+        &[
+            number,
+            r.place,
+            r.taken as usize,
+            r.accesses as usize,
+            r.refused as usize,
+        ],
+    );
 }
 
-// The lines of a replay.
-fn put_replay(out: &mut [u8], at: usize, r: Replayed) -> usize
-    requires { (at + 15605 ≤ length out.old) × Shaped r.machine }
-    ensures { (result ≤ at + 15605) × Stored out.old at (replay_lines r) out.new result }
+// The last line.
+#[tactic(auto, unfolding(output::specs::Lines::last_line))]
+fn put_last<const N: usize>(page: &mut ArrayString<N>, m: &Machine)
+    requires room { length page.old.bytes + length (last_line m.now) ≤ N }
+    requires few { m.now.n ≤ 32 }
+    ensures { page.new.bytes ≡ page.old.bytes ++ last_line m.now }
 {
-    let m = r.machine;
-    let a = put_run(out, at, r);
-    let b = put_processes(out, a, m);
-    put_last(out, b, m)
+    put_line(page, "participants", &[partaking(m)]);
+}
+
+// Writes a page into a buffer; answers how many bytes that is.
+fn hand_over<const N: usize>(page: &ArrayString<N>, out: &mut [u8; N]) -> usize
+    ensures value { (result ≡ length page.now.bytes) × (result ≤ length out.new) }
+    ensures out_after { out.new ≡ over page.now.bytes out.old }
+{
+    let text = page.as_str().as_bytes();
+    out[..text.len()].copy_from_slice(text);
+    text.len()
+}
+
+// What the program `verdict` prints of its input; answers how many bytes that is.
+#[tactic(auto, using(crate::proofs::Fits::verdict_length), unfolding(output::specs::Lines::verdict_text))]
+pub fn verdict_text(bytes: &[u8], out: &mut [u8; 64]) -> usize
+    ensures value { (result ≡ length (verdict_text bytes.now)) × (result ≤ length out.new) }
+    ensures out_after { out.new ≡ over (verdict_text bytes.now) out.old }
+{
+    let mut page = ArrayString::<64>::new();
+    if bytes.len() > MOST {
+        page.push_str("too long\n");
+    } else {
+        put_verdict(&mut page, &checker::verdict(bytes));
+    }
+    hand_over(&page, out)
 }
 
 // What the program `replay` prints of its input; answers how many bytes that is.
+#[tactic(auto, using(crate::proofs::Fits::replay_fits), unfolding(output::specs::Lines::replay_text, output::specs::Lines::replay_lines))]
 pub fn replay_text(bytes: &[u8], out: &mut [u8; 16384]) -> usize
     ensures value { (result ≡ length (replay_text bytes.now)) × (result ≤ length out.new) }
     ensures out_after { out.new ≡ over (replay_text bytes.now) out.old }
 {
-    if 65535 < bytes.len() {
-        return put_word(out, 0, b"too long\n");
+    let mut page = ArrayString::<16384>::new();
+    if bytes.len() > MOST {
+        page.push_str("too long\n");
+    } else {
+        let r = orders::replay(bytes, 65535);
+        put_run(&mut page, &r);
+        put_processes(&mut page, &r.machine);
+        put_last(&mut page, &r.machine);
     }
-    let r = orders::replay(bytes, 65535);
-    put_replay(out, 0, r)
+    hand_over(&page, out)
 }

@@ -1,5 +1,5 @@
 -- A number in decimal digits: its last digit after those of a tenth of it, how many there are, and that they write the number.
-use Prim.Native.Nat.{ℕ, zero, suc, ◌+◌, ◌-◌, ◌*◌, ◌/◌, ◌%◌, ◌≤◌, ◌<◌}
+use Prim.Native.Nat.{ℕ, zero, suc, ◌+◌, ◌-◌, ◌*◌, ◌/◌, ◌%◌, ◌^◌, ◌≤◌, ◌<◌}
 use mathlib.Core.Bool.{Bool, true, false, cond}
 use mathlib.Core.Path.{◌≡◌, refl, sym, ap, ap₂, subst, ◌∙◌}
 use mathlib.Core.Logic.{◌≢◌}
@@ -8,6 +8,8 @@ use native.Mathlib.Omega.{arith}
 use lib.Dec.{ltb}
 use lib.ListN.{length, get_or, length-append, get_or-append}
 use borrow.Author.Tests.{lt-ltb, le-ltb, ltb-true, ltb-false}
+use Rattle.std.specs.Fmt.{decimal as printed}
+use Rattle.std.proofs.lemmas.Fmt.{AppendsLastDigit, decimal_from_appends, length-decimal-le_succ}
 use Rattle.text.specs.Decimal.{digits_in, decimal, read_on, read_back, Digit, Digits, Numeral, DecimalIsNumeral, OneNumeral, DecimalTells}
 
 -- below ten, and from ten on
@@ -48,6 +50,15 @@ unfolding decimal
 decimal_above n h =
     enough n (suc n) n (omega arith) (omega arith) ∙ above n n h
     ∙ ap (λ (x : List ℕ). x ++ (48 + n % 10) ∷ []) (enough n (n / 10) (n / 10) (omega arith) (omega arith))
+
+-- what `{}` and the crate itoa print
+last_digit_appended : AppendsLastDigit digits_in
+last_digit_appended = record { one = below; more = above }
+
+pub printed_decimal : (n : ℕ) → n < 2 ^ 64 → printed n ≡ decimal n
+unfolding decimal
+printed_decimal n h =
+    sym (decimal_from_appends digits_in last_digit_appended (n + 1) n h (length-decimal-le_succ n h)) ∙ enough (n + 1) n n (omega arith) (omega arith)
 
 -- how many digits
 abbrev tens : ℕ → ℕ

@@ -1,12 +1,13 @@
 -- `report::partaking` meets its contract.
-use Rattle.report.proofs.Processes.{partakers_none, partakers_more, partakers_all}
+use Rattle.std.proofs.Common.{rules, arith, ◌≡◌, ◌∙◌, take, length-take}
+use Rattle.std.specs.List.{count_by}
+use Rattle.rules.specs.declared.Process.{Process}
+use Rattle.rules.specs.Stands.{entered}
+use Rattle.report.proofs.Processes.{partakers}
 use Rattle.report.proofs.partaking.Goals as goal
 
-pub loop-i-init : goal.loop-i-init
-loop-i-init c = partakers_none c.args.m
-
-pub loop-i-preserved : goal.loop-i-preserved
-loop-i-preserved c = partakers_more c.loop-i.invariant c.loop-i-test.true c.taking_part-sum.ensures
-
 pub returns : goal.returns
-returns c = partakers_all c.loop-i.invariant c.loop-i-test.false
+returns c =
+    let m = c.args.m.now in
+    let e : c.count.result ≡ count_by (λ (p : Process). entered p.stage) (take m.n m.processes) = search rules in
+    e ∙ partakers m (omega (arith, length-take m.n m.processes))

@@ -1,6 +1,7 @@
--- `report::put_line` meets its contract: the word, the numbers, the line's end.
-use Rattle.text.proofs.Stores.{then}
+-- `report::put_line` meets its contract.
+use Rattle.std.proofs.Common.{arith, ap, length}
+use Rattle.std.proofs.lemmas.Grind.{common_steps}
 use Rattle.report.proofs.put_line.Goals as goal
 
-pub returns : goal.returns
-returns c = then c.put_word-a.ensures (then c.put_fields-b.ensures c.put_byte.ensures)
+pub put_field-requires : goal.put_field-requires
+put_field-requires g c = let e = ap length c.loop-n.invariant in grind (arith, common_steps)

@@ -1,17 +1,19 @@
 -- `report::put_pairs` meets its contract.
-use Rattle.formats.proofs.Tests.{told}
-use Rattle.report.proofs.Pairs.{pair_room, pairs_in, pairs_out, pairs_all}
+use Rattle.std.proofs.Common.{arith, ap, length}
+use Rattle.std.proofs.lemmas.Grind.{common_steps}
+use Rattle.report.proofs.Pairs.{pair_next, no_pair_here, no_pair_left}
 use Rattle.report.proofs.put_pairs.Goals as goal
+use Rattle.report.proofs.put_pairs.Goals.{then-has, else-has}
 
-pub put_pair-place-requires : goal.put_pair-place-requires
-put_pair-place-requires c = pair_room c.loop-i.invariant c.loop-i-test.true (told c.has.ensures c.if-has.true) c.requires
-
-pub loop-i-preserved-then-has : goal.loop-i-preserved-then-has
-loop-i-preserved-then-has c =
-    pairs_in c.loop-i.invariant c.loop-i-test.true (told c.has.ensures c.if-has.true) c.put_pair-place.ensures
+pub put_pair-requires : goal.put_pair-requires
+put_pair-requires g c = let e = ap length c.loop-i.invariant in grind (arith, common_steps, pair_next)
 
 pub loop-i-preserved : goal.loop-i-preserved
-loop-i-preserved c = pairs_out c.loop-i.invariant c.loop-i-test.true (told c.has.ensures c.if-has.false)
+loop-i-preserved g c =
+    elim c.if-has.branch [
+      | then-has w ↦ grind (arith, common_steps, pair_next)
+      | else-has w ↦ grind (arith, common_steps, no_pair_here)
+    ]
 
 pub returns : goal.returns
-returns c = pairs_all c.loop-i.invariant c.loop-i-test.false
+returns g c = grind (arith, common_steps, no_pair_left)

@@ -1,10 +1,8 @@
--- `report::put_pairs` meets its contract. The loop's invariant: the pairs of the processes after the first i are left to store.
-use Rattle.std.proofs.Common.{◌-◌}
-use Rattle.report.proofs.Pairs.{Pairs}
+-- `report::put_pairs` meets its contract. The loop's invariant: the pairs of the processes from i on are left to write.
+use Rattle.std.proofs.Common.{◌≡◌, ◌++◌, ◌-◌, false}
+use Rattle.output.specs.Lines.{pairs_from}
 use Rattle.report.proofs.put_pairs.Given as goal
 
 abbrev pub invariant-loop-i : goal.invariant-loop-i
-invariant-loop-i l = Pairs l.initial.out l.at l.view l.values l.out l.place l.later l.i
-
-abbrev pub decreases-loop-i : goal.decreases-loop-i
-decreases-loop-i l = 32 - l.i
+invariant-loop-i g l =
+    l.page.bytes ++ pairs_from l.later l.view l.values l.i (33 - l.i) ≡ l.initial.page.bytes ++ pairs_from false l.view l.values 1 32
