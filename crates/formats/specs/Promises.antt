@@ -1,4 +1,4 @@
--- What the two definitions of a view file promise of each other. `proofs/` proves each, under the same name in small letters, with hyphens.
+-- What the two definitions of a view file promise of each other. `proofs/` proves each, under the same name in small letters, with underscores.
 use Rattle.std.specs.Prelude.{ℕ, ◌<◌, true, false, ◌≡◌, List, length}
 use Rattle.formats.specs.declared.Views.{Views}
 use Rattle.formats.specs.Numbers.{is_whole}

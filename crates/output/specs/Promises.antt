@@ -1,4 +1,4 @@
--- What is promised of the printed texts. `proofs/` proves each, under the same name in small letters, with hyphens.
+-- What is promised of the printed texts. `proofs/` proves each, under the same name in small letters, with underscores.
 use Rattle.std.specs.Prelude.{ℕ, ◌≤◌, ◌<◌, ◌≡◌, ◌↔◌, ◌≢◌, false, List, [], ◌∷◌, ◌++◌, map, length, Err}
 use Rattle.sets.specs.Members.{count}
 use Rattle.rules.specs.declared.Machine.{Machine}

@@ -1,5 +1,5 @@
 -- What is promised of every order file, every budget and every view file that is written. `proofs/` proves each, under the same name in small
--- letters, with hyphens.
+-- letters, with underscores.
 use Rattle.std.specs.Prelude.{ℕ, ◌+◌, ◌-◌, ◌*◌, ◌≤◌, ◌<◌, true, ◌≡◌, ◌↔◌, ◌≢◌, length, get_or, take, drop, None}
 use mathlib.Core.List.{List, ◌++◌, Memᴰ}
 use Rattle.sets.specs.Members.{count, size}
