@@ -83,13 +83,15 @@ read_from_lem (suc k) s at h = go (order_at s at) refl (read_from_lem k s)
     later : (o : Order) {x : Orders} → Read k s (at + width o) x → Read (suc k) s at (then (call_of o) x)
     later o r = record { few = omega (arith, wide o, r.few); answer = λ l. r.answer (omega (arith, wide o)) }
 
-    go : (r : Found Order) → order_at s at ≡ r → ((next : ℕ) → next ≤ length s → Read k s next (orders_from k s next)) → Read (suc k) s at (order_then s at r (orders_from k s))
+    go : (r : Found Order) → order_at s at ≡ r → ((next : ℕ) → next ≤ length s → Read k s next (orders_from k s next))
+        → Read (suc k) s at (order_then s at r (orders_from k s))
     go (Ok None) e f = record { few = omega arith; answer = λ l q. omega arith }
     go (Err a) e f = record { few = omega arith; answer = λ l. fine_order s at (Err a) e }
     go (Ok (Some o)) e f = later o (f (at + width o) (whole_order s at o e))
 
 -- so of a whole file
-read_file : (s : List ℕ) (budget : ℕ) → length s ≤ 65535 → ((replay_of s budget).taken ≤ 21844) × (21844 ≤ budget → file_number (replay_of s budget).answer ≢ 13)
+read_file : (s : List ℕ) (budget : ℕ) → length s ≤ 65535
+    → ((replay_of s budget).taken ≤ 21844) × (21844 ≤ budget → file_number (replay_of s budget).answer ≢ 13)
 unfolding replay_of
 read_file s budget h = go (header_of s) refl (opens s)
   where

@@ -66,9 +66,9 @@ prints s n h e t =
     ∙ ap replay_lines (replayed_bare s n o.some o.most (orders_from 65535 s 3)) ∙ t
 
 pub texts : Texts
-unfolding replay_lines run_line header_of orders_from order_at mark_at mark_of trace_by bare_answer access settle reading has plus count size joined process_line sight_line
-    row_values pairs_from pair decimal digits_in last_line partaking verdict_text verdict_line verdict_of check_of findings of_one of_pair breaks agree inside read_of read_from
-    view_at tested_at values_read first every within
+unfolding replay_lines run_line header_of orders_from order_at mark_at mark_of trace_by bare_answer access settle reading has plus count size joined
+    process_line sight_line row_values pairs_from pair decimal digits_in last_line partaking verdict_text verdict_line verdict_of check_of findings
+    of_one of_pair breaks agree inside read_of read_from view_at tested_at values_read first every within
 texts =
     record {
       printed_run = prints printed_file 2 (lit≤ tt) refl refl;

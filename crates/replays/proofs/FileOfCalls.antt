@@ -1,4 +1,5 @@
--- The bytes of a file of calls, and the calls of a file of bytes: up to the record that was not taken a file has just the bytes that its calls are written with.
+-- The bytes of a file of calls, and the calls of a file of bytes: up to the record that was not taken a file has just the bytes that its calls are written
+-- with.
 use Prim.Native.Nat.{ℕ, zero, suc, ◌+◌, ◌*◌, ◌/◌, ◌%◌, ◌≤◌, ◌<◌}
 use Prim.Native.String.{String}
 use mathlib.Core.Bool.{true}

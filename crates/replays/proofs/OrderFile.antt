@@ -42,7 +42,8 @@ module _ (a t : List ℕ) where
   stands : (c : Call) → FileCall c → order_at (a ++ (call_bytes c ++ t)) (length a) ≡ Ok (Some (order_of c))
   stands (enters p v) w =
       let l : List ℕ = call_bytes (enters p v) ++ t in
-      enter_at_lem (a ++ l) (length a) (long l 7 (omega arith)) (marks l "EN" refl) ∙ ap₂ (λ (p x : ℕ). Ok (Some (Order.Enter p x))) (byte_past a l 2) (word_past a l 3 ∙ word_back v t w.1)
+      enter_at_lem (a ++ l) (length a) (long l 7 (omega arith)) (marks l "EN" refl)
+      ∙ ap₂ (λ (p x : ℕ). Ok (Some (Order.Enter p x))) (byte_past a l 2) (word_past a l 3 ∙ word_back v t w.1)
   stands (steps p) w =
       let l : List ℕ = call_bytes (steps p) ++ t in
       step_at_lem (a ++ l) (length a) (long l 3 (omega arith)) (marks l "ST" refl) ∙ ap (λ (p : ℕ). Ok (Some (Order.Step p))) (byte_past a l 2)
@@ -51,7 +52,8 @@ module _ (a t : List ℕ) where
       crash_at_lem (a ++ l) (length a) (long l 3 (omega arith)) (marks l "CR" refl) ∙ ap (λ (p : ℕ). Ok (Some (Order.Crash p))) (byte_past a l 2)
 
 -- what follows a call's bytes
-follows : (s : List ℕ) (at k : ℕ) (c : Call) → order_then s at (Ok (Some (order_of c))) (orders_from k s) ≡ then c (orders_from k s (at + length (call_bytes c)))
+follows : (s : List ℕ) (at k : ℕ) (c : Call)
+    → order_then s at (Ok (Some (order_of c))) (orders_from k s) ≡ then c (orders_from k s (at + length (call_bytes c)))
 follows s at k (enters p v) = refl
 follows s at k (steps p) = refl
 follows s at k (crashes p) = refl
@@ -60,7 +62,8 @@ follows s at k (crashes p) = refl
 abbrev whole : List ℕ → List Call → Orders
 whole s cs = record { answer = Whole; place = length s; calls = cs }
 
-read_back_lem : (cs : List Call) (a : List ℕ) (k : ℕ) → FileCalls cs → length cs ≤ k → orders_from k (a ++ order_bytes cs) (length a) ≡ whole (a ++ order_bytes cs) cs
+read_back_lem : (cs : List Call) (a : List ℕ) (k : ℕ) → FileCalls cs → length cs ≤ k
+    → orders_from k (a ++ order_bytes cs) (length a) ≡ whole (a ++ order_bytes cs) cs
 unfolding order_bytes
 read_back_lem [] a k w h = from_end k (a ++ []) (length a) (omega (arith, length-append a []))
 read_back_lem (c ∷ cs) a zero w h = absurd (omega arith)
@@ -86,7 +89,8 @@ unfolding order_bytes
 last_call [] c = append-nil (call_bytes c)
 last_call (d ∷ cs) c = ap (λ (l : List ℕ). call_bytes d ++ l) (last_call cs c) ∙ sym (append_assoc (call_bytes d) (order_bytes cs) (call_bytes c))
 
-one_longer : (at n k : ℕ) (cs : List Call) (c : Call) → at ≡ length (order_file n cs) → length (call_bytes c) ≡ k → at + k ≡ length (order_file n (cs ++ c ∷ []))
+one_longer : (at n k : ℕ) (cs : List Call) (c : Call) → at ≡ length (order_file n cs) → length (call_bytes c) ≡ k
+    → at + k ≡ length (order_file n (cs ++ c ∷ []))
 one_longer at n k cs c e f = omega (arith, ap length (last_call cs c), length-append (order_bytes cs) (call_bytes c))
 
 -- A place that holds calls is where the file of these calls ends.

@@ -23,7 +23,8 @@ use Rattle.replays.proofs.WholeFile.{header_whole, whole_header, stop_place, hel
 use Rattle.replays.proofs.OrderFile.{held_length}
 use Rattle.world.specs.Calls.{counts, leaves}
 
-counted_by : (s : List ℕ) (budget : ℕ) (h : Result ℕ FileAnswer) → header_of s ≡ h → Counted (processes_by h) (calls_by s budget h) budget (replay_by s budget h)
+counted_by : (s : List ℕ) (budget : ℕ) (h : Result ℕ FileAnswer) → header_of s ≡ h
+    → Counted (processes_by h) (calls_by s budget h) budget (replay_by s budget h)
 unfolding counts leaves
 counted_by s budget (Err a) e = record { most = omega arith; taken = refl; accesses = refl; refused = refl; state = refl }
 counted_by s budget (Ok n) e = record { most = few_calls s budget n e; taken = refl; accesses = refl; refused = refl; state = refl }

@@ -130,7 +130,8 @@ pub record Going (s : List ℕ) (n budget : ℕ) (r : Counts) (m : Machine) (at 
   pub left : resumed s r m (orders_from (budget - r.taken) s at) ≡ replayed s n (orders_from budget s 3)
 
 module _ {s : List ℕ} {n budget : ℕ} {r : Counts} {m : Machine} {at : ℕ} (g : Going s n budget r m at) where
-  turn : {x : Found Order} → next_order s at (eqb r.taken budget) ≡ x → orders_from (budget - r.taken) s at ≡ order_then s at x (orders_from (budget - (r.taken + 1)) s)
+  turn : {x : Found Order} → next_order s at (eqb r.taken budget) ≡ x
+      → orders_from (budget - r.taken) s at ≡ order_then s at x (orders_from (budget - (r.taken + 1)) s)
   turn e =
       from_next (budget - r.taken) (budget - (r.taken + 1)) s at (eqb r.taken budget) (λ t. omega (arith, eqb-true r.taken budget t))
       (λ f. let z = eqb-false r.taken budget f in omega (arith, g.taken, z))

@@ -363,7 +363,8 @@ whole_why s k o (spent w q l) z = absurd (omega (arith, ap file_number w))
 whole_why s k o (fault a w q l f) z = absurd (told s o.place (Err a) q f (ap file_number (sym w) ∙ z))
 
 -- a file whose header is read
-read_zero : (s : List ℕ) (budget : ℕ) → file_number (replay_of s budget).answer ≡ 0 → (h : Result ℕ FileAnswer) → header_of s ≡ h → (n : ℕ) × (header_of s ≡ Ok n)
+read_zero : (s : List ℕ) (budget : ℕ) → file_number (replay_of s budget).answer ≡ 0 → (h : Result ℕ FileAnswer) → header_of s ≡ h
+    → (n : ℕ) × (header_of s ≡ Ok n)
 read_zero s budget z (Ok n) e = (n, e)
 read_zero s budget z (Err a) e = absurd (header_refused s a e (sym (ap file_number (faulty_header s budget a e).0) ∙ z))
 
