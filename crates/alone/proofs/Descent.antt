@@ -10,7 +10,7 @@ use borrow.Author.Tests.{le-leb, eq-eqb, ne_eqb}
 use Rattle.std.specs.Prelude.{Option, Some, None, Ok, Err}
 use Rattle.sets.specs.Members.{known, has, size}
 use Rattle.sets.specs.Sets.{set_of, upwards}
-use Rattle.sets.proofs.Laws.{either, known_true, unknown_has, members_equal, has-set_of, set_of-below, has-upwards, upwards-below}
+use Rattle.sets.proofs.Laws.{either, known_true, unknown_has, members_equal, has-set_of, set_of-below, has-upwards, upwards-below, size_ones}
 use Rattle.sets.proofs.Bits.{has_or}
 use Rattle.rules.specs.declared.Stage.{Stage}
 use Rattle.rules.specs.declared.Stage.TheVariants.{Running, Finished}
@@ -56,6 +56,8 @@ gathered_later row k f h ne =
         has_or f (upwards row k) i ∙ ap (λ (b : Bool). has f i || b) (has-upwards row k i)
         ∙ sym (has-set_of test 32 i ∙ ap₂ (λ (a b : Bool). a && b && test i) n (le-leb i 32 (known_true i n).1))
 
+pub ruleset gathers = (gathered_first, gathered_later)
+
 -- One level of the recursion: there is none below 1; it ends at r's level; it goes on below.
 module _ (m : Machine) (p : ℕ) (r : Runner) where
   pub none_below : r.level ≡ 0 → descent r.level m p r ≡ here m None
@@ -78,6 +80,8 @@ module _ (m : Machine) (p : ℕ) (r : Runner) where
   pub falls_below : r.level ≢ 0 → size (seen_at m p r) ≢ r.level → descent r.level m p r ≡ descent (r.level - 1) (written m p r) p (below r)
   unfolding by
   falls_below ne e = next r.level ne ∙ ap (by (r.level - 1)) (ne_eqb (size (seen_at m p r)) r.level e)
+
+pub ruleset level_laws = (none_below, lands_here, falls_below, size_ones)
 
 -- It looks at no record, so one that was stored before stands in what it leaves.
 abbrev with_record : ℕ → Process → Descent → Descent
@@ -147,7 +151,8 @@ falls x m p k f r ne h =
     ∙ sym (falls_below m p (at m p (suc (suc x)) k f) some ne))
     (overwritten (finish_from (suc x) (left x m p k) p) (descent (suc x) (base m p (suc (suc x)) k) p d)
     (subst (Ends p v (finish_from (suc x) (left x m p k) p)) (descent_stored (suc x) (base m p (suc (suc x)) k) p (fallen x m p) d)
-    (subst (λ (u : ℕ). Ends p u (finish_from (suc x) (left x m p k) p) (descent (suc x) (left x m p k) p (record { level = suc x; made = 0; found = 0; value = u })))
+    (subst (λ (u : ℕ). Ends p u (finish_from (suc x) (left x m p k) p)
+    (descent (suc x) (left x m p k) p (record { level = suc x; made = 0; found = 0; value = u })))
     (ap (λ (P : Process). P.value) (stored x m p k f r ne)) h))))
   where
     v : ℕ

@@ -17,7 +17,7 @@ struct Landing {
 }
 
 // What the reads that are left find in a row, nobody else moving: all of it after the write, or what was found and the registers from `made` on.
-#[tactic(auto, using(crate::proofs::Descent::gathered_first, crate::proofs::Descent::gathered_later))]
+#[tactic(auto, using(crate::proofs::Descent::gathers))]
 fn gather(row: u32, made: u32, found: u32) -> u32
     ensures { result ≡ gathered row made found }
 {
@@ -41,7 +41,7 @@ fn write_own(m: &mut Machine, p: u32, runner: Runner)
 
 // The call at a level: writes the own register of its row if it has not, reads what is left of the row, and finishes there or calls itself at the
 // level below. None: at level 1 with a count other than 1.
-#[tactic(auto, using(crate::proofs::Descent::none_below, crate::proofs::Descent::lands_here, crate::proofs::Descent::falls_below, sets::proofs::Laws::size_ones))]
+#[tactic(auto, using(crate::proofs::Descent::level_laws))]
 fn descend(m: &mut Machine, p: u32, runner: Runner) -> Option<Landing>
     requires { (runner.level ≤ 32) × (1 ≤ p) × (p ≤ 32) }
     ensures lands { result ≡ (descent runner.level m.old p runner).landing }

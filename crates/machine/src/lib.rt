@@ -92,33 +92,24 @@ pub fn crash(mut m: Machine, p: u32) -> Called
 }
 
 // One register access of process p (rules 4 and 5); refuses 1, 2, 4, 5, 6, 7. One way out, which costs a copy of the state less.
-#[tactic(auto, using(moves::proofs::Laws::write_in_place, moves::proofs::Laws::refused_step, moves::proofs::Laws::write_step, moves::proofs::Laws::turn_step))]
+#[tactic(auto, using(moves::proofs::Laws::step_laws))]
 pub fn step(mut m: Machine, p: u32) -> Called
     ensures { result ≡ step_of m p }
 {
     let answer = match moves::next_move(&m, p) {
         Err(answer) => answer,
-        Ok(
-            Move::Write(
-                Runner {
-                    level,
-                    found,
-                    value,
-                    ..
-                },
-            ),
-        ) => {
+        Ok(Move::Write(runner)) => {
             let at = (p - 1) as usize;
-            let row = (level - 1) as usize;
+            let row = (runner.level - 1) as usize;
             m.filled[row] = sets::plus(m.filled[row], p);
-            m.values[32 * row + at] = value;
+            m.values[32 * row + at] = runner.value;
             m.processes[at] = Process {
                 stage: Stage::Running {
-                    level,
+                    level: runner.level,
                     made: 1,
-                    found,
+                    found: runner.found,
                 },
-                value,
+                value: runner.value,
             };
             Answer::Done
         }

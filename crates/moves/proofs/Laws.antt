@@ -172,10 +172,13 @@ write_in_place m p r = go (runner_of m p) refl
     turns v (Ok s) e = cc
     turns v (Err a) e = cc
 
-    by : (s : Runner) (z : Bool) → Ok s ≡ runner_of m p → Ok (Write r) ≡ cond z (Ok (Write s)) (turn s.value (after_read m.n (row_of m s.level) s)) → InPlace p r
+    by : (s : Runner) (z : Bool) → Ok s ≡ runner_of m p
+        → Ok (Write r) ≡ cond z (Ok (Write s)) (turn s.value (after_read m.n (row_of m s.level) s)) → InPlace p r
     by s true e q = let h : r ≡ s = cc in subst (InPlace p) (sym h) (in_place m p s e)
     by s false e q = absurd (turns s.value (after_read m.n (row_of m s.level) s) q)
 
     go : (q : Result Runner Answer) → q ≡ runner_of m p → Ok (Write r) ≡ move_in m q → InPlace p r
     go (Ok s) e q = by s (eqb s.made 0) e q
     go (Err a) e q = cc
+
+pub ruleset step_laws = (refused_step, write_step, turn_step, write_in_place)

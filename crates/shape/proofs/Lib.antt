@@ -1,4 +1,4 @@
 -- What belongs to no one function.
-pub mod Arrays
 pub mod Rows
+pub mod Passes
 pub mod Determined

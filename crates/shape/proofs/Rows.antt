@@ -22,9 +22,12 @@ use Rattle.rules.specs.declared.Process.{Process}
 use Rattle.rules.specs.declared.Machine.{Machine}
 use Rattle.rules.specs.Stands.{nobody, process_of, stage_of, value_of, row_of, cell_of, entered}
 use Rattle.rules.specs.State.{wrote}
-use Rattle.rules.specs.Shape.{goes, ends, shaped_stage, shaped_process, shaped_records, shaped_register, shaped_registers, shaped}
+use Rattle.rules.specs.Shape.{goes, ends, shaped_stage, shaped_process, shaped_register, shaped_registers, shaped}
 use Rattle.shape.specs.Coded.Columns.{LowestRows, cell_good, cells_good, row_good, rows_good, ByRow, ReadOff, writers_of, lowest_at, lowest_row}
-use Rattle.shape.proofs.Arrays.{back_one}
+
+-- the index of process i + 1
+pub back_one : (i : ℕ) → i + 1 - 1 ≡ i
+back_one i = omega arith
 
 -- ---- sorting by lowest row
 
@@ -39,9 +42,9 @@ set_of_more f i b e =
 abbrev lowest_is : (ℕ → ℕ) → ℕ → ℕ → Bool
 lowest_is low x p = eqb (low (p - 1)) x
 
-pub by_row_none : (low : ℕ → ℕ) (buckets : List ℕ) → ((x : ℕ) → get_or buckets x 0 ≡ 0) → ByRow low 0 buckets
+pub by_row_none : (low : ℕ → ℕ) (buckets : List ℕ) → ((x : ℕ) → x ≤ 33 → get_or buckets x 0 ≡ 0) → ByRow low 0 buckets
 unfolding set_of
-by_row_none low buckets z = record { at = λ x h. z x }
+by_row_none low buckets z = record { at = z }
 
 pub by_row_more : (low : ℕ → ℕ) (buckets : List ℕ) (i l : ℕ) → l ≡ low i → l ≤ 33 → length buckets ≡ 34 → ByRow low i buckets
     → ByRow low (i + 1) (set buckets l (plus (get_or buckets l 0) (i + 1)))
@@ -188,6 +191,8 @@ pub no_members : (s : ℕ) → s < 2 ^ 32 → eqb s 0 ≡ within s 0
 no_members s h =
     same_sets s 0 h (lit< tt) ∙ ap (λ (b : Bool). within s 0 && b) (true_within 0 s (λ i m. absurd (false≢true (sym (has_zero i) ∙ m)))) ∙ and-true (within s 0)
 
+pub ruleset set_numbers = (within_same, same_sets, no_members)
+
 -- a test of sets and a test of registers beside it, taken apart
 every_split : (a b : ℕ → Bool) (c v : ℕ → ℕ)
     → (every 32 (λ i. same (a i) (b i)) && every 32 (λ i. eqb (c i) (cond (b i) (v i) 0))) ≡ every 32 (λ i. same (a i) (b i) && eqb (c i) (cond (a i) (v i) 0))
@@ -329,12 +334,13 @@ module _ (m : Machine) (low own : List ℕ) (R : ReadOff m low own) where
     unfolding shaped_register
     row_shaped x u = row_agrees (leb x m.n) x u
 
-    pub rows_shaped : rows_good m.n m.filled m.values low own ≡ shaped_registers m
+    rows_shaped : rows_good m.n m.filled m.values low own ≡ shaped_registers m
     unfolding rows_good
     rows_shaped =
         every_ext 32 (λ x. row_good m.n m.values low own (row_of m x) x) (λ x. every 32 (shaped_register m x)) (λ x l u. row_shaped x u)
 
--- n and the records have passed; the registers decide
-pub shaped_rest : (m : Machine) → 1 ≤ m.n → m.n ≤ 32 → shaped_records m.n m.filled m.processes ≡ true → shaped m ≡ shaped_registers m
+-- n and the records have passed; the rows decide
+pub shaped_rows : (m : Machine) (low own : List ℕ) → ReadOff m low own → 1 ≤ m.n → m.n ≤ 32 → shaped m ≡ rows_good m.n m.filled m.values low own
 unfolding shaped
-shaped_rest m some most records = ap (λ (b : Bool). b && shaped_registers m) (and (and (le-leb 1 m.n some) (le-leb m.n 32 most)) records)
+shaped_rows m low own R some most =
+    ap (λ (b : Bool). b && shaped_registers m) (and (and (le-leb 1 m.n some) (le-leb m.n 32 most)) R.records) ∙ sym (rows_shaped m low own R most)

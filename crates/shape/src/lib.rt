@@ -100,6 +100,7 @@ struct Columns {
 
 impl Columns {
     // One loop for all of it, so that each record is copied once.
+    #[tactic(auto, using(crate::proofs::Passes::passed_not, crate::proofs::Passes::passed_all))]
     fn read_off(m: &Machine) -> Option<Self>
         ensures { MatchOption result (shaped_records m.now.n m.now.filled m.now.processes ≡ false) (λ C. ReadOff m.now C.low C.own) }
     {
@@ -122,6 +123,7 @@ impl Columns {
     }
 
     // The registers of row x, all of them compared, so that the loop has no way out; it has been written by those whose lowest row is `reach` or below.
+    #[tactic(auto, using(crate::proofs::Passes::cells))]
     fn cells_good(&self, m: &Machine, x: u32, reach: u32) -> bool
         requires { (1 ≤ x) × (x ≤ 32) × (reach ≤ 32) }
         ensures { result ≡ cells_good m.now.values (32 * (x - 1)) self.now.low self.now.own reach }
@@ -136,9 +138,11 @@ impl Columns {
     }
 
     // Row x, which `written` have written.
-    #[tactic(auto, using(crate::proofs::Rows::within_same, crate::proofs::Rows::same_sets, crate::proofs::Rows::no_members))]
+    #[tactic(auto, using(crate::proofs::Rows::set_numbers))]
     fn row_good(&self, m: &Machine, x: u32, written: u32) -> bool
-        requires { (1 ≤ x) × (x ≤ 32) × (written ≡ writers_of self.now.low x) }
+        requires some { 1 ≤ x }
+        requires most { x ≤ 32 }
+        requires writers { written ≡ writers_of self.now.low x }
         ensures { result ≡ row_good m.now.n m.now.values self.now.low self.now.own (row_of m.now x) x }
     {
         if x <= m.n {
@@ -149,6 +153,7 @@ impl Columns {
     }
 
     // Every row, with no way out either; those who have written it are those who have written the row below, and those whose lowest row it is.
+    #[tactic(auto, using(crate::proofs::Passes::rows))]
     fn rows_good(&self, m: &Machine) -> bool
         ensures { result ≡ rows_good m.now.n m.now.filled m.now.values self.now.low self.now.own }
     {
@@ -164,6 +169,7 @@ impl Columns {
 }
 
 // Machine m is well shaped.
+#[tactic(auto, using(crate::proofs::Rows::shaped_rows), unfolding(rules::specs::Shape::shaped))]
 pub fn shaped(m: &Machine) -> bool
     ensures { result ≡ shaped m.now }
 {

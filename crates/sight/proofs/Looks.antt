@@ -8,8 +8,9 @@ use Rattle.rules.specs.declared.Process.{Process}
 use Rattle.rules.specs.declared.Machine.{Machine}
 use Rattle.rules.specs.Stands.{row_of}
 use Rattle.rules.specs.Shape.{ShapedStage, Going}
+use Rattle.rules.proofs.Laws.Looks.{no_values}
 use Rattle.moves.specs.Coded.Asked.{asked_of}
-use Rattle.moves.proofs.Laws.{asked_valid, standing}
+use Rattle.moves.proofs.Laws.{most, asked_valid, standing}
 
 -- it has a level
 pub record AtLevel (n x : ℕ) : Type 0 where
@@ -28,3 +29,5 @@ module _ (m : Machine) (p : ℕ) (P : Process) (e : Ok P ≡ asked_of m p) where
 
   pub found_finished : (x w : ℕ) → P.stage ≡ Finished x w → AtLevel m.n x
   found_finished x w q = let s = stands (Finished x w) q in record { low = s.low; high = s.high }
+
+pub ruleset looks = (most, no_values, found_running, found_crashed, found_finished)

@@ -50,7 +50,7 @@ fn view_values(m: &Machine, level: u32, view: u32) -> [u32; 32]
 }
 
 // What a process's record says, and its view; refuses 1, 2.
-#[tactic(auto, using(moves::proofs::Laws::most, rules::proofs::Laws::Looks::no_values, crate::proofs::Looks::found_running, crate::proofs::Looks::found_crashed, crate::proofs::Looks::found_finished), unfolding(rules::specs::Calls::look_of))]
+#[tactic(auto, using(crate::proofs::Looks::looks), unfolding(rules::specs::Calls::look_of))]
 pub fn look(m: Machine, p: u32) -> Sight
     ensures { result ≡ look_of m p }
 {
