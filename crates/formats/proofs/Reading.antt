@@ -13,7 +13,7 @@ use Rattle.sets.specs.Sets.{first, within}
 use Rattle.formats.specs.declared.FileAnswer.TheVariants.{OutOfRange, NoProcess, SecondView, NamesAbove, BodyCut}
 use Rattle.formats.specs.declared.Mark.{Mark}
 use Rattle.formats.specs.declared.ViewRecord.{ViewRecord}
-use Rattle.formats.specs.Records.{byte_at, word_at, mark_at, fits, header_by, header_of, view_by, view_at, Found}
+use Rattle.formats.specs.Records.{byte_at, word_at, mark_at, fits, header_by, header_of, view_by, view_at, AtPlace}
 use Rattle.formats.specs.ViewFile.{values_fit, tested_view, tested_by, tested_at}
 
 pub record Passed (s : List ℕ) (at n own p w : ℕ) : Type 0 where
@@ -26,7 +26,7 @@ pub record Passed (s : List ℕ) (at n own p w : ℕ) : Type 0 where
   pub whole : at + (7 + 4 * size w) ≤ length s
 
 -- a view that is read
-abbrev pub View : ℕ → ℕ → Found ViewRecord
+abbrev pub View : ℕ → ℕ → AtPlace ViewRecord
 View p w = Ok (Some (record { process = p; set = w }))
 
 -- what is read is one view
@@ -93,7 +93,7 @@ passed_view s at n own q x p w f e =
     } in
     subst (λ (y : ℕ). Passed s at n own p y) t.set (subst (λ (y : ℕ). Passed s at n own y x) t.process g)
 
-passed_by : (s : List ℕ) (at n own p w : ℕ) (r : Found ViewRecord) → view_at s at ≡ r → tested_by s at n own r ≡ View p w → Passed s at n own p w
+passed_by : (s : List ℕ) (at n own p w : ℕ) (r : AtPlace ViewRecord) → view_at s at ≡ r → tested_by s at n own r ≡ View p w → Passed s at n own p w
 passed_by s at n own p w (Ok None) r e = cc
 passed_by s at n own p w (Err a) r e = cc
 passed_by s at n own p w (Ok (Some v)) r e = passed_view s at n own v.process v.set p w (fixed_at s at v.process v.set r) e

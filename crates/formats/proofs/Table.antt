@@ -18,7 +18,7 @@ use Rattle.formats.specs.declared.FileAnswer.TheVariants.{NoProcess, SecondView,
 use Rattle.formats.specs.declared.Mark.{Mark}
 use Rattle.formats.specs.declared.ViewRecord.{ViewRecord}
 use Rattle.formats.specs.Numbers.{file_number}
-use Rattle.formats.specs.Records.{byte_at, word_at, is_mark, mark_of, mark_at, fits, header_by, header_of, view_by, view_at, Found}
+use Rattle.formats.specs.Records.{byte_at, word_at, is_mark, mark_of, mark_at, fits, header_by, header_of, view_by, view_at, AtPlace}
 use Rattle.formats.specs.ViewFile.{values_fit, tested_by, tested_at}
 use Rattle.sets.specs.Lines.{when, first_that}
 use Rattle.formats.specs.Table.{header_lines, process_at, set_at, end_at, viewed, record_lines}
@@ -76,10 +76,10 @@ header_unheaded s false false false true = refl
 header_unheaded s false false false false = refl
 
 -- The record at a place where bytes are left, as a choice by the tests of the table.
-fixed_part : List ℕ → ℕ → Found ViewRecord
+fixed_part : List ℕ → ℕ → AtPlace ViewRecord
 fixed_part s at = cond (not (fits s at 5)) (Err BodyCut) (View (byte_at s (at + 2)) (word_at s (at + 3)))
 
-turned : (b : Bool) (x y : Found ViewRecord) → cond b x y ≡ cond (not b) y x
+turned : (b : Bool) (x y : AtPlace ViewRecord) → cond b x y ≡ cond (not b) y x
 turned true x y = refl
 turned false x y = refl
 
@@ -110,7 +110,7 @@ view_at_lem s at h =
     let push : (b : Bool) → view_by s at (cond b Mark.Cut m) ≡ cond b (Err MarkCut) (view_by s at m) = elim [ true ↦ refl | false ↦ refl ] in
     ap (λ (b : Bool). view_by s at (cond b Mark.End (cond (eqb (length s) (at + 1)) Mark.Cut m))) (lt-leb (length s) at h)
     ∙ push (eqb (length s) (at + 1))
-    ∙ ap (λ (r : Found ViewRecord). cond (eqb (length s) (at + 1)) (Err MarkCut) r) (view_by_lem s at (byte_at s at) (byte_at s (at + 1)))
+    ∙ ap (λ (r : AtPlace ViewRecord). cond (eqb (length s) (at + 1)) (Err MarkCut) r) (view_by_lem s at (byte_at s at) (byte_at s (at + 1)))
 
 view_end : (s : List ℕ) (at : ℕ) → length s ≤ at → view_at s at ≡ (Ok None)
 unfolding view_at mark_at
@@ -118,12 +118,12 @@ view_end s at h =
     let mark : Mark = cond (eqb (length s) (at + 1)) Mark.Cut (mark_of (byte_at s at) (byte_at s (at + 1))) in
     ap (λ (b : Bool). view_by s at (cond b Mark.End mark)) (le-leb (length s) at h)
 
-chain : Bool → Bool → Bool → Bool → Bool → Bool → Bool → Bool → Found ViewRecord → Found ViewRecord
+chain : Bool → Bool → Bool → Bool → Bool → Bool → Bool → Bool → AtPlace ViewRecord → AtPlace ViewRecord
 chain a b c d e f g h r =
     cond a (Err MarkCut) (cond b (Err HeaderAgain) (cond c (Err OtherMark) (cond d (Err BodyCut)
     (cond e (Err NoProcess) (cond f (Err SecondView) (cond g (Err NamesAbove) (cond h (Err BodyCut) r)))))))
 
-push : (s : List ℕ) (at n own : ℕ) (x : FileAnswer) (b : Bool) (r : Found ViewRecord)
+push : (s : List ℕ) (at n own : ℕ) (x : FileAnswer) (b : Bool) (r : AtPlace ViewRecord)
     → tested_by s at n own (cond b (Err x) r) ≡ cond b (Err x) (tested_by s at n own r)
 push s at n own x true r = refl
 push s at n own x false r = refl
@@ -145,9 +145,9 @@ tested_at_lem s at n own h =
     = not_leb (at + 2 + (5 + 4 * size w)) (length s) (at + 7 + 4 * size w) (omega arith) in
     ap (tested_by s at n own) (view_at_lem s at h)
     ∙ push s at n own MarkCut a (cond b (Err HeaderAgain) (cond c (Err OtherMark) (fixed_part s at)))
-    ∙ ap (λ (r : Found ViewRecord). cond a (Err MarkCut) r) (push s at n own HeaderAgain b (cond c (Err OtherMark) (fixed_part s at)))
-    ∙ ap (λ (r : Found ViewRecord). cond a (Err MarkCut) (cond b (Err HeaderAgain) r)) (push s at n own OtherMark c (fixed_part s at))
-    ∙ ap (λ (r : Found ViewRecord). cond a (Err MarkCut) (cond b (Err HeaderAgain) (cond c (Err OtherMark) r)))
+    ∙ ap (λ (r : AtPlace ViewRecord). cond a (Err MarkCut) r) (push s at n own HeaderAgain b (cond c (Err OtherMark) (fixed_part s at)))
+    ∙ ap (λ (r : AtPlace ViewRecord). cond a (Err MarkCut) (cond b (Err HeaderAgain) r)) (push s at n own OtherMark c (fixed_part s at))
+    ∙ ap (λ (r : AtPlace ViewRecord). cond a (Err MarkCut) (cond b (Err HeaderAgain) (cond c (Err OtherMark) r)))
     (push s at n own BodyCut (not (fits s at 5)) (View p w))
     ∙ ap₂ (λ (d k : Bool). cond a (Err MarkCut) (cond b (Err HeaderAgain) (cond c (Err OtherMark) (cond d (Err BodyCut)
     (cond (not (leb 1 p && leb p n)) (Err NoProcess) (cond (has own p) (Err SecondView) (cond (not (within w (first n))) (Err NamesAbove)
@@ -190,7 +190,7 @@ record_number s at n own before h e f =
     ∷ when 16 (not (within w (first n))) ∷ when 24 g ∷ [])) e f
 
 -- what stands at a place where bytes are left is no end, and a fault there has a number
-abbrev Tells : Found ViewRecord → Type 0
+abbrev Tells : AtPlace ViewRecord → Type 0
 Tells (Ok None) = ⊥
 Tells (Ok (Some r)) = Unit {0}
 Tells (Err a) = file_number a ≢ 0
@@ -302,7 +302,7 @@ unfolding tested_at
 at_end s at n own h = ap (tested_by s at n own) (view_end s at h)
 
 -- where no line applies the record is read
-chain_none : {a b c d e f g h : Bool} (r : Found ViewRecord) → a ≡ false → b ≡ false → c ≡ false → d ≡ false → e ≡ false → f ≡ false → g ≡ false → h ≡ false
+chain_none : {a b c d e f g h : Bool} (r : AtPlace ViewRecord) → a ≡ false → b ≡ false → c ≡ false → d ≡ false → e ≡ false → f ≡ false → g ≡ false → h ≡ false
     → chain a b c d e f g h r ≡ r
 unfolding chain
 chain_none r a b c d e f g h = λ i. chain (a i) (b i) (c i) (d i) (e i) (f i) (g i) (h i) r

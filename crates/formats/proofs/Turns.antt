@@ -6,7 +6,7 @@ use native.Mathlib.Omega.{arith}
 use lib.ListN.{length}
 use Rattle.std.specs.Prelude.{None, Ok, Err}
 use Rattle.sets.specs.Members.{size}
-use Rattle.formats.specs.Records.{Found}
+use Rattle.formats.specs.Records.{AtPlace}
 use Rattle.formats.specs.declared.FileAnswer.{FileAnswer}
 use Rattle.formats.specs.declared.ViewRecord.{ViewRecord}
 use Rattle.formats.specs.declared.Views.{Views}
@@ -25,9 +25,9 @@ turn zero s at v h l = let z : 1 ≤ 0 = omega arith in absurd (omega arith)
 turn (suc k) s at v h l = record { left = k; enough = omega arith; step = refl }
 
 -- the same once it is known what stands there
-turned : (turns : ℕ) (s : List ℕ) (at : ℕ) (v : Views) (r : Found ViewRecord) (t : Turn turns s at v) → tested_at s at v.n v.own ≡ r
+turned : (turns : ℕ) (s : List ℕ) (at : ℕ) (v : Views) (r : AtPlace ViewRecord) (t : Turn turns s at v) → tested_at s at v.n v.own ≡ r
     → read_from turns s at v ≡ read_next s at v r (read_from t.left s)
-turned turns s at v r t e = t.step ∙ ap (λ (x : Found ViewRecord). read_next s at v x (read_from t.left s)) e
+turned turns s at v r t e = t.step ∙ ap (λ (x : AtPlace ViewRecord). read_next s at v x (read_from t.left s)) e
 
 module _ (turns : ℕ) (s : List ℕ) (at : ℕ) (v : Views) (h : at ≤ length s) (l : length s < at + turns) where
   pub read_end : tested_at s at v.n v.own ≡ Ok None → read_from turns s at v ≡ read_whole s v

@@ -18,7 +18,7 @@ use Rattle.sets.proofs.Laws.{either, has-known, has_zero, members_equal, has-plu
 use Rattle.formats.specs.declared.FileAnswer.{FileAnswer}
 use Rattle.formats.specs.declared.ViewRecord.{ViewRecord}
 use Rattle.formats.specs.declared.Views.{Views}
-use Rattle.formats.specs.Records.{byte_at, word_at, header_of, Found}
+use Rattle.formats.specs.Records.{byte_at, word_at, header_of, AtPlace}
 use Rattle.formats.specs.Views.{seen_by, value_by, cell, none_of}
 use Rattle.formats.specs.ViewFile.{tested_at, with_view}
 use Rattle.formats.specs.Table.{process_at, set_at, value_at, end_at, viewed, record_lines, Reached, Carried}
@@ -161,7 +161,7 @@ header_by_lem s (Ok n) e z = (none_of n, start e)
 header_by_lem s (Err a) e z = absurd (header_refused s a e z)
 
 record_by : {s : List ℕ} {at : ℕ} {before : List ℕ} {v : Views} → Walked s at before v → at < length s
-    → (x : Found ViewRecord) → tested_at s at v.n v.own ≡ x → fault_number x ≡ 0 → (u : Views) × Walked s (end_at s at) (at ∷ before) u
+    → (x : AtPlace ViewRecord) → tested_at s at v.n v.own ≡ x → fault_number x ≡ 0 → (u : Views) × Walked s (end_at s at) (at ∷ before) u
 record_by {s} {at} {before} {v} r l (Ok None) e z = absurd (not_end s at v.n v.own l e)
 record_by {s} {at} {before} {v} r l (Err a) e z = absurd (record_refused s at v.n v.own a l e z)
 record_by {s} {at} {before} {v} r l (Ok (Some x)) e z =

@@ -16,7 +16,7 @@ use Rattle.formats.specs.declared.ViewRecord.{ViewRecord}
 use Rattle.formats.specs.declared.Views.{Views}
 use Rattle.formats.specs.declared.ViewsRead.{ViewsRead}
 use Rattle.formats.specs.Numbers.{file_number, is_whole}
-use Rattle.formats.specs.Records.{header_of, Found}
+use Rattle.formats.specs.Records.{header_of, AtPlace}
 use Rattle.formats.specs.Views.{none_of}
 use Rattle.formats.specs.Range.{InRange}
 use Rattle.formats.specs.ViewFile.{tested_at, with_view, refused_at, read_whole, read_next, read_from, read_by, read_of}
@@ -52,7 +52,7 @@ data Ends (s : List ℕ) (r : ViewsRead) : Type 0 where
 
 ends_by : (s : List ℕ) (at : ℕ) (before : List ℕ) (v : Views) → Walked s at before v → at ≤ length s → (next : ℕ → Views → ViewsRead)
     → ((p w : ℕ) → tested_at s at v.n v.own ≡ View p w → Ends s (next (at + (7 + 4 * size w)) (with_view s at v p w)))
-    → (x : Found ViewRecord) → tested_at s at v.n v.own ≡ x → Ends s (read_next s at v x next)
+    → (x : AtPlace ViewRecord) → tested_at s at v.n v.own ≡ x → Ends s (read_next s at v x next)
 ends_by s at before v r l next go (Ok None) e =
     ⊎_elim
     (λ q. whole before v (subst (λ (y : ℕ). Walked s y before v) q r) refl)
@@ -60,7 +60,7 @@ ends_by s at before v r l next go (Ok None) e =
     (eq-or-lt_of_le l)
 ends_by s at before v r l next go (Err a) e =
     ⊎_elim
-    (λ q. let z : ◌≡◌ {A = Found ViewRecord} (Ok None) (Err a) = sym (at_end s at v.n v.own (omega arith)) ∙ e in
+    (λ q. let z : ◌≡◌ {A = AtPlace ViewRecord} (Ok None) (Err a) = sym (at_end s at v.n v.own (omega arith)) ∙ e in
     cc)
     (λ q. refused a at before v r q e refl)
     (eq-or-lt_of_le l)
@@ -142,7 +142,7 @@ header_answers s k n (Ok m) e f = absurd (n (sym f))
 header_answers s k n (Err a) e f = answers s a k 0 (ap (read_by s) e) f
 
 record_answers : (s : List ℕ) (k at : ℕ) (before : List ℕ) (v : Views) → k ≢ 0 → Walked s at before v
-    → (x : Found ViewRecord) → tested_at s at v.n v.own ≡ x → fault_number x ≡ k → Answers s k at
+    → (x : AtPlace ViewRecord) → tested_at s at v.n v.own ≡ x → fault_number x ≡ k → Answers s k at
 record_answers s k at before v n r (Ok None) e f = absurd (n (sym f))
 record_answers s k at before v n r (Ok (Some x)) e f = absurd (n (sym f))
 record_answers s k at before v n r (Err a) e f =

@@ -58,12 +58,12 @@ unfoldable pub header_of : List ℕ → Result ℕ FileAnswer
 header_of s = header_by s (mark_at s 0)
 
 -- What stands at a later record's place: the record, none where the file ends there, or its fault.
-abbrev pub Found : Type 0 → Type 0
-Found r = Result (Option r) FileAnswer
+abbrev pub AtPlace : Type 0 → Type 0
+AtPlace r = Result (Option r) FileAnswer
 
 -- A later record: one byte left is 11; then the mark (12, 10); then the body's length (24).
 -- Order file: `EN`, process (1), value (4). `ST`, process (1). `CR`, process (1).
-abbrev pub order_by : List ℕ → ℕ → Mark → Found Order
+abbrev pub order_by : List ℕ → ℕ → Mark → AtPlace Order
 order_by s at Mark.End = Ok None
 order_by s at Mark.Cut = Err MarkCut
 order_by s at Mark.Header = Err HeaderAgain
@@ -73,11 +73,11 @@ order_by s at Mark.Crash = cond (fits s at 1) (Ok (Some (Order.Crash (byte_at s 
 order_by s at Mark.View = Err OtherMark
 order_by s at Mark.Other = Err OtherMark
 
-unfoldable pub order_at : List ℕ → ℕ → Found Order
+unfoldable pub order_at : List ℕ → ℕ → AtPlace Order
 order_at s at = order_by s at (mark_at s at)
 
 -- View file: `VW`, process (1), set (4), then its values, which are no part of the record's fixed bytes.
-abbrev pub view_by : List ℕ → ℕ → Mark → Found ViewRecord
+abbrev pub view_by : List ℕ → ℕ → Mark → AtPlace ViewRecord
 view_by s at Mark.End = Ok None
 view_by s at Mark.Cut = Err MarkCut
 view_by s at Mark.Header = Err HeaderAgain
@@ -87,5 +87,5 @@ view_by s at Mark.Crash = Err OtherMark
 view_by s at Mark.View = cond (fits s at 5) (Ok (Some (record { process = byte_at s (at + 2); set = word_at s (at + 3) }))) (Err BodyCut)
 view_by s at Mark.Other = Err OtherMark
 
-unfoldable pub view_at : List ℕ → ℕ → Found ViewRecord
+unfoldable pub view_at : List ℕ → ℕ → AtPlace ViewRecord
 view_at s at = view_by s at (mark_at s at)

@@ -8,7 +8,7 @@ use Rattle.formats.specs.declared.ViewRecord.{ViewRecord}
 use Rattle.formats.specs.declared.Views.{Views}
 use Rattle.formats.specs.declared.ViewsRead.{ViewsRead}
 use Rattle.formats.specs.Numbers.{place_of}
-use Rattle.formats.specs.Records.{word_at, word_bytes, fits, header_of, Found, view_at}
+use Rattle.formats.specs.Records.{word_at, word_bytes, fits, header_of, AtPlace, view_at}
 use Rattle.formats.specs.Views.{owns, seen_by, value_by, cell, none_of}
 use Rattle.text.specs.Ascii.{ascii}
 use Rattle.text.specs.Parts.{joined}
@@ -28,20 +28,20 @@ file_of v = ascii "MN" ++ v.n ∷ joined 1 32 (λ i. cond (owns v i) (view_bytes
 abbrev pub values_fit : List ℕ → ℕ → ℕ → Bool
 values_fit s at w = fits s at (5 + 4 * size w)
 
-abbrev pub tested_view : List ℕ → ℕ → ℕ → ℕ → ℕ → ℕ → Found ViewRecord
+abbrev pub tested_view : List ℕ → ℕ → ℕ → ℕ → ℕ → ℕ → AtPlace ViewRecord
 tested_view s at n own p w =
     cond (not (leb 1 p && leb p n)) (Err NoProcess)
     (cond (has own p) (Err SecondView)
     (cond (not (within w (first n))) (Err NamesAbove)
     (cond (not (values_fit s at w)) (Err BodyCut) (Ok (Some (record { process = p; set = w }))))))
 
-abbrev pub tested_by : List ℕ → ℕ → ℕ → ℕ → Found ViewRecord → Found ViewRecord
+abbrev pub tested_by : List ℕ → ℕ → ℕ → ℕ → AtPlace ViewRecord → AtPlace ViewRecord
 tested_by s at n own (Ok None) = Ok None
 tested_by s at n own (Err a) = Err a
 tested_by s at n own (Ok (Some r)) = tested_view s at n own r.process r.set
 
 -- the record at a place of a file of n processes, of which those of `own` have had their view
-unfoldable pub tested_at : List ℕ → ℕ → ℕ → ℕ → Found ViewRecord
+unfoldable pub tested_at : List ℕ → ℕ → ℕ → ℕ → AtPlace ViewRecord
 tested_at s at n own = tested_by s at n own (view_at s at)
 
 -- the values of the members of w up to j, which stand from a place on, stored as those of process p's view
@@ -64,7 +64,7 @@ abbrev pub read_whole : List ℕ → Views → ViewsRead
 read_whole s v = record { answer = Whole; place = length s; views = v }
 
 -- what follows the record at a place
-abbrev pub read_next : List ℕ → ℕ → Views → Found ViewRecord → (ℕ → Views → ViewsRead) → ViewsRead
+abbrev pub read_next : List ℕ → ℕ → Views → AtPlace ViewRecord → (ℕ → Views → ViewsRead) → ViewsRead
 read_next s at v (Ok None) next = read_whole s v
 read_next s at v (Err a) next = refused_at s a at
 read_next s at v (Ok (Some r)) next = next (at + (7 + 4 * size r.set)) (with_view s at v r.process r.set)

@@ -14,7 +14,7 @@ use Rattle.formats.specs.declared.FileAnswer.TheVariants.{Whole, BudgetSpent}
 use Rattle.formats.specs.declared.Mark.{Mark}
 use Rattle.formats.specs.declared.Order.{Order}
 use Rattle.formats.specs.Numbers.{file_number}
-use Rattle.formats.specs.Records.{byte_at, fits, mark_at, header_by, header_of, order_by, order_at, Found}
+use Rattle.formats.specs.Records.{byte_at, fits, mark_at, header_by, header_of, order_by, order_at, AtPlace}
 use Rattle.formats.proofs.Reading.{opened}
 use Rattle.replays.specs.declared.Replayed.{Replayed}
 use Rattle.replays.specs.Replays.{Orders, call_of, width, ended, then, order_then, orders_from, replay_by, replay_of}
@@ -46,7 +46,7 @@ fine_by s at Mark.Crash = fine_if (fits s at 1) _ _ tt (λ e. omega arith)
 fine_by s at Mark.View = λ e. omega arith
 fine_by s at Mark.Other = λ e. omega arith
 
-fine_order : (s : List ℕ) (at : ℕ) (o : Found Order) → order_at s at ≡ o → Fine o
+fine_order : (s : List ℕ) (at : ℕ) (o : AtPlace Order) → order_at s at ≡ o → Fine o
 unfolding order_at
 fine_order s at o e = subst Fine e (fine_by s at (mark_at s at))
 
@@ -83,7 +83,7 @@ read_from_lem (suc k) s at h = go (order_at s at) refl (read_from_lem k s)
     later : (o : Order) {x : Orders} → Read k s (at + width o) x → Read (suc k) s at (then (call_of o) x)
     later o r = record { few = omega (arith, wide o, r.few); answer = λ l. r.answer (omega (arith, wide o)) }
 
-    go : (r : Found Order) → order_at s at ≡ r → ((next : ℕ) → next ≤ length s → Read k s next (orders_from k s next))
+    go : (r : AtPlace Order) → order_at s at ≡ r → ((next : ℕ) → next ≤ length s → Read k s next (orders_from k s next))
         → Read (suc k) s at (order_then s at r (orders_from k s))
     go (Ok None) e f = record { few = omega arith; answer = λ l q. omega arith }
     go (Err a) e f = record { few = omega arith; answer = λ l. fine_order s at (Err a) e }

@@ -16,7 +16,7 @@ use Rattle.formats.specs.declared.FileAnswer.TheVariants.{OtherMark, MarkCut, Bo
 use Rattle.formats.specs.declared.Mark.{Mark}
 use Rattle.formats.specs.declared.Order.{Order}
 use Rattle.formats.specs.Numbers.{file_number}
-use Rattle.formats.specs.Records.{byte_at, word_at, spells, mark_of, mark_at, fits, order_by, order_at, Found}
+use Rattle.formats.specs.Records.{byte_at, word_at, spells, mark_of, mark_at, fits, order_by, order_at, AtPlace}
 use Rattle.formats.proofs.Table.{not_leb, fault_number}
 use Rattle.sets.specs.Lines.{when, first_that}
 use Rattle.sets.proofs.Lines.{says}
@@ -95,10 +95,10 @@ module _ (s : List ℕ) (at : ℕ) where
   crash_stands r = crash_at_lem s at (crash_long r) r.mark
 
 -- The order at a place where bytes are left, as a choice by tests.
-bodied : Bool → Order → Found Order
+bodied : Bool → Order → AtPlace Order
 bodied b o = cond b (Ok (Some o)) (Err BodyCut)
 
-chain : Bool → Bool → Bool → Bool → Bool → Found Order → Found Order → Found Order → Found Order
+chain : Bool → Bool → Bool → Bool → Bool → AtPlace Order → AtPlace Order → AtPlace Order → AtPlace Order
 chain a b en st cr e s c =
     cond a (Err MarkCut) (cond b (Err HeaderAgain) (cond en e (cond st s (cond cr c (Err OtherMark)))))
 
@@ -127,7 +127,7 @@ order_is s at h =
     ∙ chosen s at (eqb (length s) (at + 1)) (marked s at "MN") (marked s at "EN") (marked s at "ST") (marked s at "CR") (marked s at "VW")
 
 -- which mark an order has, and the numbers in it; a fault has a number
-abbrev Tells : Bool → Bool → Bool → ℕ → ℕ → Found Order → Type 0
+abbrev Tells : Bool → Bool → Bool → ℕ → ℕ → AtPlace Order → Type 0
 Tells en st cr q w (Ok None) = ⊥
 Tells en st cr q w (Err a) = file_number a ≢ 0
 Tells en st cr q w (Ok (Some (Order.Enter p v))) = (en ≡ true) × (q ≡ p) × (w ≡ v)
@@ -161,14 +161,14 @@ order_number s at h =
     ∷ when 10 (not (marked s at "EN" || marked s at "ST" || marked s at "CR")) ∷ when 24 (cond (marked s at "EN") x y) ∷ [])) long short
 
 -- an order that is read stands there
-abbrev pub Told : List ℕ → ℕ → Found Order → Type 0
+abbrev pub Told : List ℕ → ℕ → AtPlace Order → Type 0
 Told s at (Ok None) = ⊥
 Told s at (Err a) = file_number a ≢ 0
 Told s at (Ok (Some (Order.Enter p v))) = Stands s at "EN" × (byte_at s (at + 2) ≡ p) × (word_at s (at + 3) ≡ v)
 Told s at (Ok (Some (Order.Step p))) = Stands s at "ST" × (byte_at s (at + 2) ≡ p)
 Told s at (Ok (Some (Order.Crash p))) = Stands s at "CR" × (byte_at s (at + 2) ≡ p)
 
-told_by : (s : List ℕ) (at : ℕ) → at < length s → (o : Found Order) → fault_number o ≡ first_that (order_lines s at)
+told_by : (s : List ℕ) (at : ℕ) → at < length s → (o : AtPlace Order) → fault_number o ≡ first_that (order_lines s at)
     → Tells (marked s at "EN") (marked s at "ST") (marked s at "CR") (byte_at s (at + 2)) (word_at s (at + 3)) o → Told s at o
 told_by s at h (Ok None) n t = t
 told_by s at h (Err a) n t = t
@@ -176,7 +176,7 @@ told_by s at h (Ok (Some (Order.Enter p v))) n t = (record { left = h; whole = s
 told_by s at h (Ok (Some (Order.Step p))) n t = (record { left = h; whole = sym n; mark = t.0 }, t.1)
 told_by s at h (Ok (Some (Order.Crash p))) n t = (record { left = h; whole = sym n; mark = t.0 }, t.1)
 
-pub told : (s : List ℕ) (at : ℕ) (o : Found Order) → at < length s → order_at s at ≡ o → Told s at o
+pub told : (s : List ℕ) (at : ℕ) (o : AtPlace Order) → at < length s → order_at s at ≡ o → Told s at o
 told s at o h e =
     told_by s at h o (ap fault_number (sym e) ∙ order_number s at h)
     (subst (Tells (marked s at "EN") (marked s at "ST") (marked s at "CR") (byte_at s (at + 2)) (word_at s (at + 3))) (sym (order_is s at h) ∙ e)

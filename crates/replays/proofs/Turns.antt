@@ -17,7 +17,7 @@ use Rattle.formats.specs.declared.FileAnswer.TheVariants.{Whole, BudgetSpent, Bo
 use Rattle.formats.specs.declared.Mark.{Mark}
 use Rattle.formats.specs.declared.Order.{Order}
 use Rattle.formats.specs.Numbers.{place_of}
-use Rattle.formats.specs.Records.{byte_at, fits, mark_of, mark_at, order_by, order_at, Found}
+use Rattle.formats.specs.Records.{byte_at, fits, mark_of, mark_at, order_by, order_at, AtPlace}
 use Rattle.replays.specs.declared.Counts.{Counts}
 use Rattle.replays.specs.declared.Replayed.{Replayed}
 use Rattle.replays.specs.Replays.{Orders, call_of, width, ended, then, order_then, orders_from, replayed}
@@ -48,7 +48,7 @@ wide (Order.Step p) = omega arith
 wide (Order.Crash p) = omega arith
 
 -- An order that is read is whole.
-abbrev IsWhole : List ℕ → ℕ → Found Order → Type 0
+abbrev IsWhole : List ℕ → ℕ → AtPlace Order → Type 0
 IsWhole s at (Ok None) = Unit {0}
 IsWhole s at (Err a) = Unit {0}
 IsWhole s at (Ok (Some o)) = at + width o ≤ length s
@@ -84,7 +84,7 @@ order_end s at h = ap (λ (b : Bool). order_by s at (cond b Mark.End (mark_if_le
 pub from_end : (k : ℕ) (s : List ℕ) (at : ℕ) → length s ≤ at → orders_from k s at ≡ ended Whole (length s)
 unfolding orders_from
 from_end zero s at h = ap (λ (b : Bool). cond b (ended Whole (length s)) (ended BudgetSpent at)) (le-leb (length s) at h)
-from_end (suc k) s at h = ap (λ (o : Found Order). order_then s at o (orders_from k s)) (order_end s at h)
+from_end (suc k) s at h = ap (λ (o : AtPlace Order). order_then s at o (orders_from k s)) (order_end s at h)
 
 pub from_spent : (k : ℕ) (s : List ℕ) (at : ℕ) → k ≡ 0 → at < length s → orders_from k s at ≡ ended BudgetSpent at
 unfolding orders_from
@@ -92,9 +92,9 @@ from_spent k s at e h =
     ap (λ (j : ℕ). orders_from j s at) e
     ∙ ap (λ (b : Bool). cond b (ended Whole (length s)) (ended BudgetSpent at)) (lt-leb (length s) at h)
 
-pub from_order : (k j : ℕ) (s : List ℕ) (at : ℕ) (o : Found Order) → k ≡ suc j → order_at s at ≡ o → orders_from k s at ≡ order_then s at o (orders_from j s)
+pub from_order : (k j : ℕ) (s : List ℕ) (at : ℕ) (o : AtPlace Order) → k ≡ suc j → order_at s at ≡ o → orders_from k s at ≡ order_then s at o (orders_from j s)
 unfolding orders_from
-from_order k j s at o e f = ap (λ (i : ℕ). orders_from i s at) e ∙ ap (λ (x : Found Order). order_then s at x (orders_from j s)) f
+from_order k j s at o e f = ap (λ (i : ℕ). orders_from i s at) e ∙ ap (λ (x : AtPlace Order). order_then s at x (orders_from j s)) f
 
 -- with what is next, whether the budget is spent or not
 from_next : (k j : ℕ) (s : List ℕ) (at : ℕ) (spent : Bool) → (spent ≡ true → k ≡ 0) → (spent ≡ false → k ≡ suc j)
@@ -130,12 +130,12 @@ pub record Going (s : List ℕ) (n budget : ℕ) (r : Counts) (m : Machine) (at 
   pub left : resumed s r m (orders_from (budget - r.taken) s at) ≡ replayed s n (orders_from budget s 3)
 
 module _ {s : List ℕ} {n budget : ℕ} {r : Counts} {m : Machine} {at : ℕ} (g : Going s n budget r m at) where
-  turn : {x : Found Order} → next_order s at (eqb r.taken budget) ≡ x
+  turn : {x : AtPlace Order} → next_order s at (eqb r.taken budget) ≡ x
       → orders_from (budget - r.taken) s at ≡ order_then s at x (orders_from (budget - (r.taken + 1)) s)
   turn e =
       from_next (budget - r.taken) (budget - (r.taken + 1)) s at (eqb r.taken budget) (λ t. omega (arith, eqb-true r.taken budget t))
       (λ f. let z = eqb-false r.taken budget f in omega (arith, g.taken, z))
-      ∙ ap (λ (y : Found Order). order_then s at y (orders_from (budget - (r.taken + 1)) s)) e
+      ∙ ap (λ (y : AtPlace Order). order_then s at y (orders_from (budget - (r.taken + 1)) s)) e
 
   over : (a : FileAnswer) (p : ℕ) → orders_from (budget - r.taken) s at ≡ ended a p → ends s a p r m ≡ replayed s n (orders_from budget s 3)
   over a p e = resumed-ended s r m a p ∙ ap (resumed s r m) (sym e) ∙ g.left

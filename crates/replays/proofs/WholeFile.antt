@@ -16,7 +16,7 @@ use Rattle.formats.specs.declared.FileAnswer.{FileAnswer}
 use Rattle.formats.specs.declared.FileAnswer.TheVariants.{Whole, BudgetSpent}
 use Rattle.formats.specs.declared.Order.{Order}
 use Rattle.formats.specs.Numbers.{file_number, place_of}
-use Rattle.formats.specs.Records.{byte_at, word_at, header_of, order_at, Found}
+use Rattle.formats.specs.Records.{byte_at, word_at, header_of, order_at, AtPlace}
 use Rattle.formats.specs.Table.{header_lines, place_given}
 use Rattle.sets.specs.Lines.{when, first_that}
 use Rattle.formats.proofs.Reading.{opened}
@@ -134,12 +134,12 @@ stops_then s k cs c o g =
 
 stops_by : (s : List ℕ) (k at : ℕ) (cs : List Call) → Holds s at cs → at ≤ length s
     → ((at : ℕ) (cs : List Call) → Holds s at cs → at ≤ length s → Stops s k cs (orders_from k s at))
-    → (o : Found Order) → order_at s at ≡ o → Stops s (suc k) cs (order_then s at o (orders_from k s))
+    → (o : AtPlace Order) → order_at s at ≡ o → Stops s (suc k) cs (order_then s at o (orders_from k s))
 stops_by s k at cs h l go (Ok None) e =
     ⊎_elim (λ q. stops_end s (suc k) at cs h q) (λ q. absurd (told s at (Ok None) q e)) (eq-or-lt_of_le l)
 stops_by s k at cs h l go (Err a) e =
     ⊎_elim
-    (λ q. let z : ◌≡◌ {A = Found Order} (Ok None) (Err a) = sym (order_end s at (omega arith)) ∙ e in cc)
+    (λ q. let z : ◌≡◌ {A = AtPlace Order} (Ok None) (Err a) = sym (order_end s at (omega arith)) ∙ e in cc)
     (λ q. record { held = holds-none s at cs h; most = omega arith; why = fault a refl q (omega arith) e })
     (eq-or-lt_of_le l)
 stops_by s k at cs h l go (Ok (Some o)) e =
@@ -159,7 +159,7 @@ grows_zero s at l false = omega arith
 
 grows_by : (s : List ℕ) (k at : ℕ) → at ≤ length s
     → ((at : ℕ) → at ≤ length s → at + length (orders_from k s at).calls ≤ (orders_from k s at).place)
-    → (o : Found Order) → order_at s at ≡ o → at + length (order_then s at o (orders_from k s)).calls ≤ (order_then s at o (orders_from k s)).place
+    → (o : AtPlace Order) → order_at s at ≡ o → at + length (order_then s at o (orders_from k s)).calls ≤ (order_then s at o (orders_from k s)).place
 grows_by s k at l go (Ok None) e = omega arith
 grows_by s k at l go (Err a) e = omega arith
 grows_by s k at l go (Ok (Some o)) e = omega (arith, wide o, go (at + width o) (whole_order s at o e))
@@ -292,7 +292,7 @@ module _ (s : List ℕ) (budget k at : ℕ) (some : k ≢ 0) where
         r.place ∙ ap (λ (x : Orders). place_of x.answer x.place (length s)) o ∙ ap (λ (x : ℕ). place_given s x at) z,
       )
 
-  order_answers : (cs : List Call) → Comes s budget at cs → length cs < budget → (o : Found Order) → order_at s at ≡ o → fault_number o ≡ k → Answers
+  order_answers : (cs : List Call) → Comes s budget at cs → length cs < budget → (o : AtPlace Order) → order_at s at ≡ o → fault_number o ≡ k → Answers
   order_answers cs c l (Ok None) e z = absurd (some (sym z))
   order_answers cs c l (Ok (Some o)) e z = absurd (some (sym z))
   order_answers cs c l (Err a) e z =
@@ -318,7 +318,7 @@ calls_before s budget at cs h l i n = go (order_at s at) refl
     no : fault_number (order_at s at) ≡ 0 → ⊥
     no e = n (ap (λ (b : Bool). cond b 13 (first_that (order_lines s at))) ne ∙ sym (order_number s at i) ∙ e)
 
-    go : (o : Found Order) → order_at s at ≡ o → calls_of s budget ≡ cs
+    go : (o : AtPlace Order) → order_at s at ≡ o → calls_of s budget ≡ cs
     go (Err a) e =
         let c = comes budget h (omega arith) in
         (read_header s budget c.header.0 c.header.1).calls

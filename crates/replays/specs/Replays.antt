@@ -6,7 +6,7 @@ use Rattle.formats.specs.declared.FileAnswer.{FileAnswer}
 use Rattle.formats.specs.declared.FileAnswer.TheVariants.{Whole, BudgetSpent}
 use Rattle.formats.specs.declared.Order.{Order}
 use Rattle.formats.specs.Numbers.{place_of}
-use Rattle.formats.specs.Records.{header_of, Found, order_at}
+use Rattle.formats.specs.Records.{header_of, AtPlace, order_at}
 use Rattle.replays.specs.declared.Replayed.{Replayed}
 
 -- What a file holds: the calls up to a place, and why the reading ended there. The place is that of the record that was not taken.
@@ -33,7 +33,7 @@ width (Order.Step p) = 3
 width (Order.Crash p) = 3
 
 -- What stands at a place, and what follows it there: "the offset of the record's mark, or the file's length when all was read."
-abbrev pub order_then : List ℕ → ℕ → Found Order → (ℕ → Orders) → Orders
+abbrev pub order_then : List ℕ → ℕ → AtPlace Order → (ℕ → Orders) → Orders
 order_then s at (Ok None) next = ended Whole (length s)
 order_then s at (Err a) next = ended a at
 order_then s at (Ok (Some o)) next = then (call_of o) (next (at + width o))

@@ -9,7 +9,7 @@ use Rattle.formats.specs.declared.FileAnswer.{FileAnswer}
 use Rattle.formats.specs.declared.FileAnswer.TheVariants.{BudgetSpent}
 use Rattle.formats.specs.declared.Order.{Order}
 use Rattle.formats.specs.Numbers.{place_of}
-use Rattle.formats.specs.Records.{Found, order_at}
+use Rattle.formats.specs.Records.{AtPlace, order_at}
 use Rattle.replays.specs.declared.Counts.{Counts}
 use Rattle.replays.specs.declared.Replayed.{Replayed}
 use Rattle.replays.specs.Replays.{Orders}
@@ -32,7 +32,7 @@ abbrev pub took : Counts → Machine → Call → Counts
 took k m c = counted k c (answer m c).answer
 
 -- what is next at a place: the record that stands there, or 13 before any look if bytes are left and the budget is spent
-abbrev pub next_order : List ℕ → ℕ → Bool → Found Order
+abbrev pub next_order : List ℕ → ℕ → Bool → AtPlace Order
 next_order s at spent = cond spent (cond (leb (length s) at) (Ok None) (Err BudgetSpent)) (order_at s at)
 
 -- where the replay of a file ends
