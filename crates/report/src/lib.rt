@@ -15,8 +15,10 @@ use itoa::Buffer;
 use replays::Replayed;
 use rules::{Machine, Sight, Stage, Standing};
 
-// The most bytes that both programs take.
+// The most bytes that both programs take, and what they print for more.
 const MOST: usize = 65535;
+
+const TOO_LONG: &str = "too long\n";
 
 // A number in decimal digits.
 #[tactic(auto, using(text::proofs::Decimal::printed_decimal))]
@@ -194,6 +196,37 @@ fn put_last<const N: usize>(page: &mut ArrayString<N>, m: &Machine)
     put_line(page, "participants", &[partaking(m)]);
 }
 
+// The text that the program `verdict` prints.
+#[tactic(auto, using(crate::proofs::Fits::verdict_length), unfolding(output::specs::Lines::verdict_text))]
+fn verdict_page(bytes: &[u8]) -> ArrayString<64>
+    ensures { result.bytes ≡ verdict_text bytes.now }
+{
+    let mut page = ArrayString::new();
+    if bytes.len() > MOST {
+        page.push_str(TOO_LONG);
+        return page;
+    }
+    put_verdict(&mut page, &checker::verdict(bytes));
+    page
+}
+
+// The text that the program `replay` prints.
+#[tactic(auto, using(crate::proofs::Fits::replay_fits), unfolding(output::specs::Lines::replay_text))]
+fn replay_page(bytes: &[u8]) -> ArrayString<16384>
+    ensures { result.bytes ≡ replay_text bytes.now }
+{
+    let mut page = ArrayString::new();
+    if bytes.len() > MOST {
+        page.push_str(TOO_LONG);
+        return page;
+    }
+    let r = orders::replay(bytes, 65535);
+    put_run(&mut page, &r);
+    put_processes(&mut page, &r.machine);
+    put_last(&mut page, &r.machine);
+    page
+}
+
 // Writes a page into a buffer; answers how many bytes that is.
 fn hand_over<const N: usize>(page: &ArrayString<N>, out: &mut [u8; N]) -> usize
     ensures value { (result ≡ length page.now.bytes) × (result ≤ length out.new) }
@@ -205,34 +238,17 @@ fn hand_over<const N: usize>(page: &ArrayString<N>, out: &mut [u8; N]) -> usize
 }
 
 // What the program `verdict` prints of its input; answers how many bytes that is.
-#[tactic(auto, using(crate::proofs::Fits::verdict_length), unfolding(output::specs::Lines::verdict_text))]
 pub fn verdict_text(bytes: &[u8], out: &mut [u8; 64]) -> usize
     ensures value { (result ≡ length (verdict_text bytes.now)) × (result ≤ length out.new) }
     ensures out_after { out.new ≡ over (verdict_text bytes.now) out.old }
 {
-    let mut page = ArrayString::<64>::new();
-    if bytes.len() > MOST {
-        page.push_str("too long\n");
-    } else {
-        put_verdict(&mut page, &checker::verdict(bytes));
-    }
-    hand_over(&page, out)
+    hand_over(&verdict_page(bytes), out)
 }
 
 // What the program `replay` prints of its input; answers how many bytes that is.
-#[tactic(auto, using(crate::proofs::Fits::replay_fits), unfolding(output::specs::Lines::replay_text, output::specs::Lines::replay_lines))]
 pub fn replay_text(bytes: &[u8], out: &mut [u8; 16384]) -> usize
     ensures value { (result ≡ length (replay_text bytes.now)) × (result ≤ length out.new) }
     ensures out_after { out.new ≡ over (replay_text bytes.now) out.old }
 {
-    let mut page = ArrayString::<16384>::new();
-    if bytes.len() > MOST {
-        page.push_str("too long\n");
-    } else {
-        let r = orders::replay(bytes, 65535);
-        put_run(&mut page, &r);
-        put_processes(&mut page, &r.machine);
-        put_last(&mut page, &r.machine);
-    }
-    hand_over(&page, out)
+    hand_over(&replay_page(bytes), out)
 }

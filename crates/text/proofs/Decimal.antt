@@ -9,7 +9,7 @@ use lib.Dec.{ltb}
 use lib.ListN.{length, get_or, length-append, get_or-append}
 use borrow.Author.Tests.{lt-ltb, le-ltb, ltb-true, ltb-false}
 use Rattle.std.specs.Fmt.{decimal as printed}
-use Rattle.std.proofs.lemmas.Fmt.{AppendsLastDigit, decimal_from_appends, length-decimal-le_succ}
+use Rattle.std.proofs.lemmas.Fmt.{AppendsLastDigit, decimal_from_appends, length-decimal-le, length-decimal-le_succ}
 use Rattle.text.specs.Decimal.{digits_in, decimal, read_on, read_back, Digit, Digits, Numeral, DecimalIsNumeral, OneNumeral, DecimalTells}
 
 -- below ten, and from ten on
@@ -61,26 +61,17 @@ printed_decimal n h =
     sym (decimal_from_appends digits_in last_digit_appended (n + 1) n h (length-decimal-le_succ n h)) ∙ enough (n + 1) n n (omega arith) (omega arith)
 
 -- how many digits
-abbrev tens : ℕ → ℕ
-tens zero = 10
-tens (suc j) = 10 * tens j
-
-most_digits : (j n : ℕ) → n < tens j → length (decimal n) ≤ suc j
-most_digits zero n h = omega (arith, ap length (decimal-below n h))
-most_digits (suc j) n h =
-    by_size n (λ s. omega (arith, ap length (decimal-below n s)))
-    (λ g.
-    let tenth : length (decimal (n / 10)) ≤ suc j = most_digits j (n / 10) (omega arith) in
-    omega (arith, ap length (decimal_above n g), length-append (decimal (n / 10)) ((48 + n % 10) ∷ [])))
+most_digits : (k n : ℕ) → 0 < k → n < 10 ^ k → n < 2 ^ 64 → length (decimal n) ≤ k
+most_digits k n p h l = omega (arith, ap length (printed_decimal n l), length-decimal-le k n p h l)
 
 pub two_digits : (n : ℕ) → n < 100 → length (decimal n) ≤ 2
-two_digits n h = most_digits 1 n h
+two_digits n h = most_digits 2 n (omega arith) (omega arith) (omega arith)
 
 pub ten_digits : (n : ℕ) → n < 4294967296 → length (decimal n) ≤ 10
-ten_digits n h = most_digits 9 n (omega arith)
+ten_digits n h = most_digits 10 n (omega arith) (omega arith) (omega arith)
 
 pub twenty_digits : (n : ℕ) → n < 18446744073709551616 → length (decimal n) ≤ 20
-twenty_digits n h = most_digits 19 n (omega arith)
+twenty_digits n h = most_digits 20 n (omega arith) (omega arith) (omega arith)
 
 -- What holds below ten and passes from a tenth to the number holds of every number.
 by_tenths : (P : ℕ → Type 0) → ((n : ℕ) → n < 10 → P n) → ((n : ℕ) → 10 ≤ n → P (n / 10) → P n) → (n : ℕ) → P n
