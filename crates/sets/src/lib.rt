@@ -24,11 +24,7 @@ pub fn has(s: u32, i: u32) -> bool
 pub fn plus(s: u32, i: u32) -> u32
     ensures { result ≡ plus s i }
 {
-    if known(i) {
-        s | (1 << (i - 1))
-    } else {
-        s
-    }
+    if known(i) { s | (1 << (i - 1)) } else { s }
 }
 
 // The processes 1 to k. A k above 32 gives all 32.
