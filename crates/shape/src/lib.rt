@@ -44,7 +44,7 @@ fn wanted(low: u32, own: u32, reach: u32) -> u32
     }
 }
 
-// The registers filled in row x, none in a row that there is not.
+// The registers filled in row x; none above row 32.
 fn row(m: &Machine, x: u32) -> u32
     ensures { result ≡ row_of m.now x }
 {
