@@ -18,7 +18,7 @@ pub struct Found {
     pub j: u32,
 }
 
-// The verdict of a file.
+// The verdict of a file: document 01's four numbers, of a refused file's answer or of a finding; 0 where none.
 #[derive(Clone, Copy)]
 pub struct FileVerdict {
     pub number: u32,

@@ -52,13 +52,13 @@ pub struct Views {
     pub n: u32,
     // the set of processes that have a view
     pub own: u32,
-    // process i's view at i - 1: the set of processes that it names
+    // process i's view at i - 1: the set of processes that it names, as a file has it
     pub seen: [u32; 32],
     // the value that process i's view gives to process j at 32(i - 1) + (j - 1); 0 beside a process that it does not name
     pub values: [u32; 1024],
 }
 
-// What reading a view file answers.
+// What reading a view file answers. A refused file gives n = 0 and no views (document 01): so no Result.
 #[derive(Clone, Copy)]
 pub struct ViewsRead {
     pub answer: FileAnswer,

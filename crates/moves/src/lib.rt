@@ -22,7 +22,8 @@ pub fn find(m: &Machine, p: u32) -> Result<Process, Answer>
     Ok(m.processes[(p - 1) as usize])
 }
 
-// A process as it runs: at a level after `made` accesses, with the registers that it found filled there, and its value.
+// A process as it runs: at a level after `made` accesses, with the registers that it found filled there, and its value. That the level is 1 to 32 is the
+// machine's shape, and no ghost field here: the definitions that build a runner would have to prove it.
 #[derive(Clone, Copy)]
 pub struct Runner {
     pub level: u32,

@@ -117,6 +117,7 @@ fn replay_orders(s: &[u8], n: u32, budget: u32) -> Replayed
     let mut m = fresh(n);
     let mut counts = none();
     let mut at = 3;
+    // no range counts the place: it moves by what each record is wide
     loop {
         match next_order(s, at, counts.taken == budget) {
             Ok(Some(order)) => {

@@ -85,6 +85,7 @@ fn read_records(s: &[u8], n: u32) -> ViewsRead
 {
     let mut views = none_of(n);
     let mut at = 3;
+    // no range counts the place: it moves by what each record is wide
     loop {
         match tested_at(s, at, &views) {
             Ok(Some(r)) => {

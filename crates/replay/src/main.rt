@@ -1,5 +1,5 @@
 // Reads an order file from standard input, replays it and prints the run (document 01, "Printed output"). Where standard input cannot be read
-// it prints nothing.
+// it prints nothing. `verdict` differs in a function and a size: one function for both would require that the closure it takes may be called.
 #![tactic(auto)]
 
 fn main(rt: HostRuntime) {

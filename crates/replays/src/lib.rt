@@ -4,7 +4,7 @@
 use formats::FileAnswer;
 use rules::Machine;
 
-// What a replay answers.
+// What a replay answers: counts and state stand beside every number (document 01), so no Result.
 #[derive(Clone, Copy)]
 pub struct Replayed {
     pub answer: FileAnswer,
@@ -31,6 +31,7 @@ pub enum WriteAnswer {
     TooShort = 17,
 }
 
+// What the view writer answers, with the bytes written, 0 on a refusal (document 01): so no Result.
 #[derive(Clone, Copy)]
 pub struct Written {
     pub answer: WriteAnswer,

@@ -9,6 +9,7 @@ use std::io;
 const PRINTED_RUN: &[u8] =
     b"MN\x02EN\x01\x07\x00\x00\x00EN\x02\x09\x00\x00\x00ST\x01ST\x01ST\x01ST\x02ST\x02ST\x02ST\x01ST\x01ST\x01ST\x02";
 
+// These two lines, and that of a verdict, stand in `probe` and `judge` too: a crate for three formats is no plainer.
 fn show_run(rt: &impl Print, r: &Replayed) -> io::Result<()> {
     println!(rt;
         "run {} {} {} {} {}",

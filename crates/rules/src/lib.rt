@@ -19,7 +19,7 @@ pub struct Process {
 #[derive(Clone, Copy)]
 pub struct Machine {
     pub n: u32,
-    // row x at x - 1: the set of processes whose register there is filled
+    // row x at x - 1: the set of processes whose register there is filled; a set, as a process holds what it found (rule 5), and no Option a register
     pub filled: [u32; 32],
     // row x, register i at 32(x - 1) + (i - 1); 0 beside an empty register
     pub values: [u32; 1024],
@@ -40,6 +40,7 @@ pub enum Answer {
     OutOfRange = 8,
 }
 
+// What a call answers, and the state, which a refused call hands back too (document 01): so no Result.
 #[derive(Clone, Copy)]
 pub struct Called {
     pub machine: Machine,
@@ -55,7 +56,8 @@ pub enum Standing {
     Crashed,
 }
 
-// What a look answers. The view is a set, with the value of its process i at i - 1; 0 elsewhere, and all 0 where there is no view.
+// What a look answers. The view is a set, with the value of its process i at i - 1; 0 elsewhere, and all 0 where there is no view. A refused look gives
+// absent, 0, 0 and no view (document 01): so no Result.
 #[derive(Clone, Copy)]
 pub struct Sight {
     pub answer: Answer,

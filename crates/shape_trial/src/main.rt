@@ -8,7 +8,7 @@ ghost use Rattle.std.specs.Prelude.{◌<◌};
 use rules::{Machine, Process, Stage};
 use std::io;
 
-// One decimal digit; any other byte is 0.
+// One decimal digit; any other byte is 0. `trial` has the same line: a crate for it is no plainer.
 fn digit(b: u8) -> u32
     ensures { result < 10 }
 {

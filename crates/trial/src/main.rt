@@ -8,7 +8,7 @@ ghost use Rattle.std.specs.Prelude.{◌<◌};
 use rules::{Called, Machine, Process, Sight, Stage, Standing};
 use std::io;
 
-// One decimal digit; any other byte is 0.
+// One decimal digit; any other byte is 0. `shape_trial` has the same line: a crate for it is no plainer.
 fn digit(b: u8) -> u32
     ensures { result < 10 }
 {
@@ -39,7 +39,7 @@ fn running(made: u32, found: u32, value: u32) -> Process {
     Process { stage, value }
 }
 
-// The call that a letter names; any other letter asks for P8's state.
+// The call that a letter of the script names; any other letter asks for P8's state.
 fn call(m: Machine, letter: u8, p: u32, v: u32) -> Called {
     match letter {
         b'n' => machine::new(p),
@@ -52,6 +52,7 @@ fn call(m: Machine, letter: u8, p: u32, v: u32) -> Called {
     }
 }
 
+// A stage's word; `report` has its own, by contract, private to it.
 fn word(standing: Standing) -> &'static str {
     match standing {
         Standing::Absent => "absent",

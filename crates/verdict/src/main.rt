@@ -1,5 +1,5 @@
 // Reads a view file from standard input and prints its verdict (document 01, "Printed output"). Where standard input cannot be read
-// it prints nothing.
+// it prints nothing. `replay` differs in a function and a size: one function for both would require that the closure it takes may be called.
 #![tactic(auto)]
 
 fn main(rt: HostRuntime) {
