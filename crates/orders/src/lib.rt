@@ -18,24 +18,15 @@ use formats::{FileAnswer, Order};
 use replays::{Counts, Replayed, WriteAnswer, Written};
 use rules::{Answer, Called, Machine, Stage};
 
-// The machine that a call handed back, in place of the one that it was made on; answers what the call answered.
-fn kept(called: Called, m: &mut Machine) -> Answer
-    ensures value { result ≡ called.answer }
-    ensures machine_after { m.new ≡ called.machine }
-{
-    *m = called.machine;
-    called.answer
-}
-
-// The call that an order asks for, made on the machine. Each arm keeps its own: a state that the three hand to one place is copied once more an order.
-fn obey(m: &mut Machine, order: Order) -> Answer
-    ensures value { result ≡ (answer m.old (call_of order)).answer }
-    ensures machine_after { m.new ≡ (answer m.old (call_of order)).machine }
+// The call that an order asks for, made on the machine. Inlined, so that the state that it hands back is copied once less an order.
+#[inline(always)]
+fn obey(m: Machine, order: Order) -> Called
+    ensures { result ≡ answer m (call_of order) }
 {
     match order {
-        Order::Enter { process, value } => kept(machine::enter(*m, process, value), m),
-        Order::Step { process } => kept(machine::step(*m, process), m),
-        Order::Crash { process } => kept(machine::crash(*m, process), m),
+        Order::Enter { process, value } => machine::enter(m, process, value),
+        Order::Step { process } => machine::step(m, process),
+        Order::Crash { process } => machine::crash(m, process),
     }
 }
 
@@ -121,8 +112,9 @@ fn replay_orders(s: &[u8], n: u32, budget: u32) -> Replayed
     loop {
         match next_order(s, at, counts.taken == budget) {
             Ok(Some(order)) => {
-                let a = obey(&mut m, order);
-                counts = counted(counts, order, a);
+                let called = obey(m, order);
+                counts = counted(counts, order, called.answer);
+                m = called.machine;
                 at += width(order);
             }
             Ok(None) => return ends(s, FileAnswer::Whole, s.len(), counts, m),
