@@ -32,16 +32,11 @@ fn lowest(stage: Stage) -> u32
     }
 }
 
-// Signed, since SSE2 compares signed numbers only.
+// What stands in a register of a row that a process has written if `low`, the lowest that it has, is `reach` or below.
 fn wanted(low: u32, own: u32, reach: u32) -> u32
-    requires { (low ≤ 33) × (reach ≤ 32) }
     ensures { result ≡ cond (leb low reach) own 0 }
 {
-    if (low as i32) <= (reach as i32) {
-        own
-    } else {
-        0
-    }
+    if low <= reach { own } else { 0 }
 }
 
 // The registers filled in row x; none above row 32.
@@ -125,7 +120,7 @@ impl Columns {
     // The registers of row x, all of them compared, so that the loop has no way out; it has been written by those whose lowest row is `reach` or below.
     #[tactic(auto, using(crate::proofs::Passes::cells))]
     fn cells_good(&self, m: &Machine, x: u32, reach: u32) -> bool
-        requires { (1 ≤ x) × (x ≤ 32) × (reach ≤ 32) }
+        requires { (1 ≤ x) × (x ≤ 32) }
         ensures { result ≡ cells_good m.now.values (32 * (x - 1)) self.now.low self.now.own reach }
     {
         let base = (32 * (x - 1)) as usize;
