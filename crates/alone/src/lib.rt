@@ -28,6 +28,7 @@ fn gather(row: u32, made: u32, found: u32) -> u32
 }
 
 // The first access at a level (rule 4), if it is yet to make: process p's own register in the row of that level is filled with its value.
+// That p and the level are 1 to 32 the call has tested: it answers on every machine, so no type carries it.
 fn write_own(m: &mut Machine, p: u32, runner: Runner)
     requires { (1 ≤ runner.level) × (runner.level ≤ 32) × (1 ≤ p) × (p ≤ 32) }
     ensures { m.new ≡ written m.old p runner }

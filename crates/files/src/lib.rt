@@ -1,4 +1,5 @@
-// What both kinds of file share (document 01, "Files"): marks, little-endian numbers, records, and the numbers that a file call answers with.
+// What both kinds of file share (document 01, "Files"): marks, little-endian numbers, records, and the numbers that a file call answers with. Each function
+// takes a file and a place in it, as the definitions do.
 #![tactic(auto)]
 
 ghost use Rattle.std.specs.Prelude.{◌≡◌};

@@ -18,7 +18,7 @@ pub enum FileAnswer {
     NamesAbove = 16,
 }
 
-// What stands at a record's place: nothing, one byte, or a mark.
+// What stands at a record's place: nothing, one byte, or a mark. One enum, since each kind of record gives each case a number of its own.
 #[derive(Clone, Copy)]
 pub enum Mark {
     End,

@@ -78,7 +78,7 @@ fn with_view(s: &[u8], at: usize, mut v: Views, r: ViewRecord) -> Views
     v
 }
 
-// The records after the header.
+// The records after the header, whose n is 1 to 32; a header is a number, as document 01 has it, and not a type of its own.
 fn read_records(s: &[u8], n: u32) -> ViewsRead
     requires { (3 ≤ length s.now) × (n ≤ 32) }
     ensures { result ≡ read_from (length s.now) s.now 3 (none_of n) }

@@ -80,7 +80,8 @@ fn process_good(m: &Machine, i: u32, process: Process) -> bool
     }
 }
 
-// What one pass over the records gives, where each of them stands as it may.
+// What one pass over the records gives, where each of them stands as it may. `low` and `own` are an array each, since a row is compared with all of one and
+// all of the other.
 #[derive(Clone, Copy)]
 struct Columns {
     // For process i, at i - 1: the lowest row that it has written, 33 if none.

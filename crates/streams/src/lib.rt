@@ -12,7 +12,7 @@ use std::{fmt, io};
 // The error of a call that a signal interrupted before it moved a byte.
 const EINTR: i32 = 4;
 
-// What one call of read or write came to.
+// What one call of read or write came to: a result has no case for the end, nor one for a call to make again.
 #[derive(Clone, Copy)]
 pub enum Outcome {
     Moved(usize),
