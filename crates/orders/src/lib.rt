@@ -100,7 +100,8 @@ fn ends(s: &[u8], a: FileAnswer, at: usize, counts: Counts, m: Machine) -> Repla
     }
 }
 
-// The orders after the header of a file of n processes, 1 to 32, as the header's test left it. An order that the machine refuses is counted and skipped: the state is as it was.
+// The orders after the header of a file of n processes, 1 to 32, as the header's test left it. An order that the machine refuses is counted and skipped: the
+// state is as it was.
 fn replay_orders(s: &[u8], n: u32, budget: u32) -> Replayed
     requires { (3 ≤ length s.now) × (1 ≤ n) × (n ≤ 32) }
     ensures { result ≡ replayed s.now n (orders_from budget s.now 3) }
