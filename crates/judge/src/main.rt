@@ -1,7 +1,6 @@
 // Runs the compiled reader and checker on document 01's P9 and P10 and some other view files, and prints each verdict: number, place, i, j.
+// What can't be printed is left out.
 #![tactic(auto)]
-
-use std::io;
 
 // The view files that are judged.
 const FILES: [&[u8]; 10] = [
@@ -29,10 +28,10 @@ const FILES: [&[u8]; 10] = [
     b"MN\x02VW\x01\x01\x00\x00\x00\x07\x00\x00",
 ];
 
-fn main(rt: HostRuntime) -> io::Result<()> {
+fn main(rt: HostRuntime) {
     for file in FILES {
         let v = checker::verdict(file);
-        println!(rt; "verdict {} {} {} {}", v.number, v.place, v.i, v.j)?;
+        // a Display beside the type would be a public impl with a contract and edits, for two programs
+        let _ = println!(rt; "verdict {} {} {} {}", v.number, v.place, v.i, v.j);
     }
-    Ok(())
 }

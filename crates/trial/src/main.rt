@@ -1,12 +1,11 @@
 // Runs a script of calls on the compiled machine and prints what they answer: document 01's machine examples, and its printed run with each step in a
 // slot of the executor. The gate compares that with the stored output. A line of the script is seven bytes, `X NN V` and a line end: a letter, a process
-// number (or n), a value of one digit.
+// number (or n), a value of one digit. What can't be printed is left out.
 #![tactic(auto)]
 
 ghost use Rattle.std.specs.Prelude.{◌<◌};
 
 use rules::{Called, Machine, Process, Sight, Stage, Standing};
-use std::io;
 
 // One decimal digit; any other byte is 0. `shape_trial` has the same line: a crate for it is no plainer.
 fn digit(b: u8) -> u32
@@ -39,7 +38,8 @@ fn running(made: u32, found: u32, value: u32) -> Process {
     Process { stage, value }
 }
 
-// The call that a letter of the script names; any other letter asks for P8's state.
+// The call that a letter of the script names; any other letter asks for P8's state. It is matched here,
+// where its call is made (`l`, which hands back no machine, in `obey`), so an enum of letters is no plainer.
 fn call(m: Machine, letter: u8, p: u32, v: u32) -> Called {
     match letter {
         b'n' => machine::new(p),
@@ -52,7 +52,7 @@ fn call(m: Machine, letter: u8, p: u32, v: u32) -> Called {
     }
 }
 
-// A stage's word; `report` has its own, by contract, private to it.
+// A stage's word; `report` has its own, by contract, private to it. No Display, since Standing is another crate's type.
 fn word(standing: Standing) -> &'static str {
     match standing {
         Standing::Absent => "absent",
@@ -63,44 +63,43 @@ fn word(standing: Standing) -> &'static str {
 }
 
 // What a look answers, and the pairs of its view.
-fn print_look(rt: &impl Print, s: &Sight) -> io::Result<()> {
-    print!(rt;
+fn print_look(rt: &impl Print, s: &Sight) {
+    let _ = print!(rt;
         "{} {} {} {}",
         s.answer as u32,
         word(s.standing),
         s.level,
         s.accesses
-    )?;
+    );
     for (i, value) in (1..).zip(s.values) {
         if sets::has(s.view, i) {
-            print!(rt; " {i}:{value}")?;
+            let _ = print!(rt; " {i}:{value}");
         }
     }
-    println!(rt;)
+    let _ = println!(rt;);
 }
 
 // One line of the script, and the machine after it.
-fn obey(rt: &impl Print, m: Machine, line: &[u8; 7]) -> io::Result<Machine> {
+fn obey(rt: &impl Print, m: Machine, line: &[u8; 7]) -> Machine {
     let [letter, _, tens, ones, _, value, _] = *line;
     let p = 10 * digit(tens) + digit(ones);
-    rt.write_all(&line[..6])?;
-    print!(rt; "  ")?;
+    let _ = rt.write_all(&line[..6]);
+    let _ = print!(rt; "  ");
     if letter == b'l' {
-        print_look(rt, &sight::look(m, p))?;
-        return Ok(m);
+        print_look(rt, &sight::look(m, p));
+        return m;
     }
     let c = call(m, letter, p, digit(value));
-    println!(rt; "{}", c.answer as u32)?;
-    Ok(c.machine)
+    let _ = println!(rt; "{}", c.answer as u32);
+    c.machine
 }
 
-fn main(rt: HostRuntime) -> io::Result<()> {
+fn main(rt: HostRuntime) {
     let mut buffer = [0; 4096];
     let mut m = machine::new(1).machine;
     if let Some(script) = streams::read_input(&rt, &mut buffer) {
         for line in script.as_chunks().0 {
-            m = obey(&rt, m, line)?;
+            m = obey(&rt, m, line);
         }
     }
-    Ok(())
 }
