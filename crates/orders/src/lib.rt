@@ -1,12 +1,10 @@
 // The replay of an order file and the writer of a view file (document 01, "Files"), over the machine's calls.
 #![tactic(auto)]
 
-ghost use Rattle.std.specs.Prelude.{◌≡◌, true, ◌≤◌, eqb, length};
+ghost use Rattle.std.specs.Prelude.{◌≡◌, ◌≤◌, length};
 ghost use Rattle.rules.specs.Stands.{cell_in};
-ghost use Rattle.rules.specs.Shape.{shaped};
 ghost use Rattle.rules.specs.Calls.{fresh};
 ghost use Rattle.history.specs.Runs.{answer};
-ghost use Rattle.formats.specs.Records.{word_bytes};
 ghost use Rattle.text.specs.Parts.{joined};
 ghost use Rattle.replays.specs.Replays.{call_of, width, replayed, orders_from, replay_of};
 ghost use Rattle.replays.specs.Coded.Turns.{none, counted, next_order, ends, CountsFit};

@@ -4,8 +4,8 @@
 
 ghost use Rattle.std.specs.Prelude.{◌≡◌, [], ◌∷◌, ◌++◌, ◌+◌, ◌*◌, ◌≤◌, length, false};
 ghost use Rattle.text.specs.Decimal.{decimal};
-ghost use Rattle.output.specs.Lines.{field, fields, line, verdict_line, verdict_text, stage_word, comma, pair, pairs_from, view, sight_line};
-ghost use Rattle.output.specs.Lines.{process_line, partaking, last_line, run_line, replay_lines, replay_text};
+ghost use Rattle.output.specs.Lines.{field, fields, line, verdict_line, verdict_text, stage_word, pair, pairs_from, view, sight_line};
+ghost use Rattle.output.specs.Lines.{process_line, partaking, last_line, run_line, replay_text};
 ghost use Rattle.rules.specs.Shape.{Shaped};
 ghost use Rattle.text.specs.Parts.{joined};
 ghost use Rattle.text.specs.Stores.{over};
