@@ -73,6 +73,7 @@ fn none() -> Counts
 }
 
 // A machine of n processes, none of which has entered.
+#[tactic(auto, unfolding(rules::specs::Calls::new_of))]
 fn fresh(n: u32) -> Machine
     requires { (1 ≤ n) × (n ≤ 32) }
     ensures { result ≡ fresh n }
