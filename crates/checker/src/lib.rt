@@ -119,13 +119,15 @@ pub fn verdict(s: &[u8]) -> FileVerdict
     ensures { result ≡ verdict_of s.now }
 {
     let r = reader::read(s);
+    // with no finding the number is the file's own: 0 of a whole file
+    let none = FileVerdict {
+        number: r.answer as u32,
+        place: r.place,
+        i: 0,
+        j: 0,
+    };
     if r.answer != FileAnswer::Whole {
-        return FileVerdict {
-            number: r.answer as u32,
-            place: r.place,
-            i: 0,
-            j: 0,
-        };
+        return none;
     }
     match check(&r.views) {
         Some(f) => FileVerdict {
@@ -134,11 +136,6 @@ pub fn verdict(s: &[u8]) -> FileVerdict
             i: f.i,
             j: f.j,
         },
-        None => FileVerdict {
-            number: 0,
-            place: r.place,
-            i: 0,
-            j: 0,
-        },
+        None => none,
     }
 }

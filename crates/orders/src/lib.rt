@@ -1,12 +1,10 @@
 // The replay of an order file and the writer of a view file (document 01, "Files"), over the machine's calls.
 #![tactic(auto)]
 
-ghost use Rattle.std.specs.Prelude.{◌≡◌, true, ◌≤◌, eqb, length};
+ghost use Rattle.std.specs.Prelude.{◌≡◌, ◌≤◌, length};
 ghost use Rattle.rules.specs.Stands.{cell_in};
-ghost use Rattle.rules.specs.Shape.{shaped};
 ghost use Rattle.rules.specs.Calls.{fresh};
 ghost use Rattle.history.specs.Runs.{answer};
-ghost use Rattle.formats.specs.Records.{word_bytes};
 ghost use Rattle.text.specs.Parts.{joined};
 ghost use Rattle.replays.specs.Replays.{call_of, width, replayed, orders_from, replay_of};
 ghost use Rattle.replays.specs.Coded.Turns.{none, counted, next_order, ends, CountsFit};
@@ -66,6 +64,7 @@ fn none() -> Counts
 }
 
 // A machine of n processes, none of which has entered.
+#[tactic(auto, unfolding(rules::specs::Calls::new_of))]
 fn fresh(n: u32) -> Machine
     requires { (1 ≤ n) × (n ≤ 32) }
     ensures { result ≡ fresh n }

@@ -1,10 +1,11 @@
 // The printed output of both programs (document 01, "Printed output"): each text is written on a page, and the page into a lent buffer.
+// Each function asks for the room of a text of its own, so no type carries that for all.
 #![tactic(auto)]
 
 ghost use Rattle.std.specs.Prelude.{◌≡◌, [], ◌∷◌, ◌++◌, ◌+◌, ◌*◌, ◌≤◌, length, false};
 ghost use Rattle.text.specs.Decimal.{decimal};
-ghost use Rattle.output.specs.Lines.{field, fields, line, verdict_line, verdict_text, stage_word, comma, pair, pairs_from, view, sight_line};
-ghost use Rattle.output.specs.Lines.{process_line, partaking, last_line, run_line, replay_lines, replay_text};
+ghost use Rattle.output.specs.Lines.{field, fields, line, verdict_line, verdict_text, stage_word, pair, pairs_from, view, sight_line};
+ghost use Rattle.output.specs.Lines.{process_line, partaking, last_line, run_line, replay_text};
 ghost use Rattle.rules.specs.Shape.{Shaped};
 ghost use Rattle.text.specs.Parts.{joined};
 ghost use Rattle.text.specs.Stores.{over};
@@ -64,7 +65,7 @@ fn put_verdict<const N: usize>(page: &mut ArrayString<N>, v: &FileVerdict)
     );
 }
 
-// A stage's word, after a space.
+// A stage's word, after a space. No Display: `write!` to a page gives a Result that no contract says is Ok, and no text here may fail.
 fn stage_word(s: Standing) -> &'static str
     ensures { result.now ≡ stage_word s }
 {
@@ -104,7 +105,7 @@ fn put_pairs<const N: usize>(page: &mut ArrayString<N>, view: u32, values: &[u32
     }
 }
 
-// How many processes take part.
+// How many processes take part. That n is at most 32 is asked for: number 1 is answered on every machine, so the type can't carry it.
 fn partaking(m: &Machine) -> usize
     requires { m.now.n ≤ 32 }
     ensures { result ≡ partaking m.now }
@@ -139,6 +140,7 @@ fn put_sight<const N: usize>(page: &mut ArrayString<N>, i: u32, s: &Sight)
     put_field(page, s.accesses as usize);
     page.push(' ');
     put_view(page, s);
+    // as a text: after so many pieces a char's room is beyond the search
     page.push_str("\n");
 }
 
@@ -196,16 +198,16 @@ fn put_last<const N: usize>(page: &mut ArrayString<N>, m: &Machine)
     put_line(page, "participants", &[partaking(m)]);
 }
 
-// The text that the program `verdict` prints.
+// The text that the program `verdict` prints. The guard stands in both pages: to share it, a function would take the
+// writing of a page as a closure, with clauses about what that asks for and leaves.
 #[tactic(auto, using(crate::proofs::Fits::verdict_length), unfolding(output::specs::Lines::verdict_text))]
 fn verdict_page(bytes: &[u8]) -> ArrayString<64>
     ensures { result.bytes ≡ verdict_text bytes.now }
 {
-    let mut page = ArrayString::new();
     if bytes.len() > MOST {
-        page.push_str(TOO_LONG);
-        return page;
+        return ArrayString::from(TOO_LONG).unwrap();
     }
+    let mut page = ArrayString::new();
     put_verdict(&mut page, &checker::verdict(bytes));
     page
 }
@@ -215,11 +217,10 @@ fn verdict_page(bytes: &[u8]) -> ArrayString<64>
 fn replay_page(bytes: &[u8]) -> ArrayString<16384>
     ensures { result.bytes ≡ replay_text bytes.now }
 {
-    let mut page = ArrayString::new();
     if bytes.len() > MOST {
-        page.push_str(TOO_LONG);
-        return page;
+        return ArrayString::from(TOO_LONG).unwrap();
     }
+    let mut page = ArrayString::new();
     let r = orders::replay(bytes, 65535);
     put_run(&mut page, &r);
     put_processes(&mut page, &r.machine);

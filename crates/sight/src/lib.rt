@@ -2,7 +2,7 @@
 #![tactic(auto)]
 
 ghost use Rattle.std.specs.Prelude.{◌≡◌, ◌+◌, ◌-◌, ◌*◌, ◌≤◌};
-ghost use Rattle.rules.specs.Calls.{look_of, blindly, row_values};
+ghost use Rattle.rules.specs.Calls.{look_of, standing_of, blindly, row_values};
 
 use rules::{Answer, Machine, Sight, Stage, Standing};
 
@@ -49,6 +49,18 @@ fn view_values(m: &Machine, level: u32, view: u32) -> [u32; 32]
     values
 }
 
+// How the record of a process says that it stands.
+fn standing(stage: Stage) -> Standing
+    ensures { result ≡ standing_of stage }
+{
+    match stage {
+        Stage::Absent => Standing::Absent,
+        Stage::Running { .. } => Standing::Running,
+        Stage::Finished { .. } => Standing::Finished,
+        Stage::Crashed { .. } => Standing::Crashed,
+    }
+}
+
 // What a process's record says, and its view; refuses 1, 2.
 #[tactic(auto, using(crate::proofs::Looks::looks), unfolding(rules::specs::Calls::look_of))]
 pub fn look(m: Machine, p: u32) -> Sight
@@ -60,15 +72,9 @@ pub fn look(m: Machine, p: u32) -> Sight
     };
     match process.stage {
         Stage::Absent => blind(Answer::Done, Standing::Absent, 0, 0),
-        Stage::Running { level, made, .. } => blind(
+        Stage::Running { level, made, .. } | Stage::Crashed { level, made, .. } => blind(
             Answer::Done,
-            Standing::Running,
-            level,
-            accesses(m.n, level, made),
-        ),
-        Stage::Crashed { level, made, .. } => blind(
-            Answer::Done,
-            Standing::Crashed,
+            standing(process.stage),
             level,
             accesses(m.n, level, made),
         ),
