@@ -1,8 +1,7 @@
 // The shape test of document 01 ("A state is well shaped if .."), of a machine that is lent, so that no register is copied.
 #![tactic(auto)]
 
-ghost use Rattle.std.specs.Prelude.{◌≡◌, cond, false, ℕ, ◌*◌, ◌-◌, ◌≤◌, ◌<◌, get_or, leb, MatchOption};
-ghost use Rattle.sets.specs.Sets.{first};
+ghost use Rattle.std.specs.Prelude.{◌≡◌, cond, false, ◌*◌, ◌-◌, ◌≤◌, get_or, leb, MatchOption};
 ghost use Rattle.rules.specs.Shape.{goes, ends, shaped_process, shaped_records, shaped};
 ghost use Rattle.rules.specs.Stands.{row_of};
 ghost use Rattle.shape.specs.Coded.Columns.{lowest_at, lowest_row, LowestRows, cells_good, ByRow, ReadOff, writers_of, row_good, rows_good};
