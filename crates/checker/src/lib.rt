@@ -11,7 +11,7 @@ ghost use Rattle.findings.specs.Verdict.{verdict_of};
 use findings::{FileVerdict, Finding, Found};
 use formats::{FileAnswer, Views};
 
-// The processes that i's view names.
+// The processes that i's view names, and below the value that it gives; `row` of `shape` and `cell` of `orders` read a machine so.
 fn seen(v: &Views, i: u32) -> u32
     ensures { result ≡ seen_by v.now i }
 {

@@ -70,7 +70,7 @@ pub fn body_fits(s: &[u8], at: usize, body: usize) -> bool
     }
 }
 
-// The later record of an order file at a place: 11, 12, 10 and 24, or the order.
+// The later record of an order file at a place: 11, 12, 10 and 24, or the order. Four arms are those of view_at, whose result has another type.
 #[tactic(auto, unfolding(formats::specs::Records::order_at))]
 pub fn order_at(s: &[u8], at: usize) -> Result<Option<Order>, FileAnswer>
     ensures { result ≡ order_at s.now at }

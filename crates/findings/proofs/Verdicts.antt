@@ -54,16 +54,16 @@ of-read : (s : List ℕ) → is_whole (read_of s).answer ≡ true → (verdict_o
 of-read s e = ap (λ (x : FileVerdict). x.number) (read_then_checked s e) ∙ judged_number (length s) (check_of (read_of s).views)
 
 -- a finding's number is one of four
-twenties : (k : Finding) → (20 ≤ finding_number k) × (finding_number k ≤ 23)
-twenties LacksItself = (omega arith, omega arith)
-twenties Apart = (omega arith, omega arith)
-twenties Unlike = (omega arith, omega arith)
-twenties Disagree = (omega arith, omega arith)
+finding_number_lem : (k : Finding) → (20 ≤ finding_number k) × (finding_number k ≤ 23)
+finding_number_lem LacksItself = (omega arith, omega arith)
+finding_number_lem Apart = (omega arith, omega arith)
+finding_number_lem Unlike = (omega arith, omega arith)
+finding_number_lem Disagree = (omega arith, omega arith)
 
 -- so 0 is that of none
 no_number : (f : Option Found) → number f ≡ 0 → f ≡ None
 no_number None e = refl
-no_number (Some f) e = absurd (omega (arith, twenties f.finding))
+no_number (Some f) e = absurd (omega (arith, finding_number_lem f.finding))
 
 yes_by : (s : List ℕ) → (verdict_of s).number ≡ 0 → (is_whole (read_of s).answer ≡ true) × Obeys (read_of s).views
 yes_by s z =
@@ -96,7 +96,7 @@ abbrev kind : Option Found → Option Finding
 kind f = option_map (λ (g : Found). g.finding) f
 
 kind_is : (f : Option Found) (k : Finding) → number f ≡ finding_number k → kind f ≡ Some k
-kind_is None k e = absurd (omega (arith, twenties k))
+kind_is None k e = absurd (omega (arith, finding_number_lem k))
 kind_is (Some f) k e = ap Some (sym (finding_back f.finding) ∙ ap finding_of e ∙ finding_back k)
 
 is_kind : (f : Option Found) (k : Finding) → kind f ≡ Some k → number f ≡ finding_number k
@@ -106,7 +106,7 @@ is_kind (Some f) k e = ap finding_number (same_Some f.finding k e)
 -- 0, or one of four
 answered : (f : Option Found) → (number f ≡ 0) ⊎ ((20 ≤ number f) × (number f ≤ 23))
 answered None = inl refl
-answered (Some f) = inr (twenties f.finding)
+answered (Some f) = inr (finding_number_lem f.finding)
 
 file_number_lem : (a : FileAnswer) → (file_number a < 20) ⊎ (23 < file_number a)
 file_number_lem Whole = inl (omega arith)
@@ -137,7 +137,7 @@ module _ (s : List ℕ) where
       → (is_whole (read_of s).answer ≡ true) × (kind (check_of (read_of s).views) ≡ Some k)
   unfolding told
   finds k e =
-      let l = twenties k in
+      let l = finding_number_lem k in
       ⊎_elim
       (λ t. (t, kind_is (check_of (read_of s).views) k (sym (of-read s t) ∙ e)))
       (λ t. absurd (apart told (file_number_lem (read_of s).answer) (omega (arith, of-refused t, l.0)) (omega (arith, of-refused t, l.1))))

@@ -18,7 +18,7 @@ pub enum FileAnswer {
     NamesAbove = 16,
 }
 
-// What stands at a record's place: nothing, one byte, or a mark. One enum, since each kind of record gives each case a number of its own.
+// What stands at a record's place: nothing, one byte, or a mark. An end is 9 to a header and the end to a later record, so this is no Result.
 #[derive(Clone, Copy)]
 pub enum Mark {
     End,
@@ -52,7 +52,7 @@ pub struct Views {
     pub n: u32,
     // the set of processes that have a view
     pub own: u32,
-    // process i's view at i - 1: the set of processes that it names, as a file has it
+    // process i's view at i - 1: the set of processes that it names, as a file has it; so the values stand beside
     pub seen: [u32; 32],
     // the value that process i's view gives to process j at 32(i - 1) + (j - 1); 0 beside a process that it does not name
     pub values: [u32; 1024],

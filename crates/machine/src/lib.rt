@@ -99,6 +99,7 @@ pub fn step(mut m: Machine, p: u32) -> Called
     let answer = match moves::next_move(&m, p) {
         Err(answer) => answer,
         Ok(Move::Write(runner)) => {
+            // as write_own of `alone`: one function for both would be public
             let at = (p - 1) as usize;
             let row = (runner.level - 1) as usize;
             m.filled[row] = sets::plus(m.filled[row], p);

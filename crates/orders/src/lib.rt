@@ -63,7 +63,7 @@ fn none() -> Counts
     }
 }
 
-// A machine of n processes, none of which has entered.
+// A machine of n processes, none of which has entered: that of `machine`, for an n in range.
 #[tactic(auto, unfolding(rules::specs::Calls::new_of))]
 fn fresh(n: u32) -> Machine
     requires { (1 ≤ n) × (n ≤ 32) }

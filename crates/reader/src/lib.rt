@@ -1,4 +1,4 @@
-// The view reader: number, place, n and the views of a view file (document 01, "Files").
+// The view reader: number, place, n and the views of a view file (document 01, "Files"). Functions take a file and a place, as in `files`.
 #![tactic(auto)]
 
 ghost use Rattle.std.specs.Prelude.{◌≡◌, ◌+◌, ◌≤◌, length};
@@ -51,7 +51,7 @@ fn refused(s: &[u8], a: FileAnswer, at: usize) -> ViewsRead
     }
 }
 
-// The values of a view's members, which stand from a place on, ascending, stored as those of its process.
+// The values of a view's members, which stand from a place on, ascending, stored as those of its process, which 14 has tested.
 fn values_read(s: &[u8], from: usize, r: ViewRecord, mut values: [u32; 1024]) -> [u32; 1024]
     requires { (from ≤ length s.now) × (1 ≤ r.process) × (r.process ≤ 32) }
     ensures { result ≡ values_read s.now from r.process r.set 32 values }

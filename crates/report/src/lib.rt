@@ -188,7 +188,7 @@ fn put_run<const N: usize>(page: &mut ArrayString<N>, r: &Replayed)
     );
 }
 
-// The last line.
+// The last line; n as for partaking.
 #[tactic(auto, unfolding(output::specs::Lines::last_line))]
 fn put_last<const N: usize>(page: &mut ArrayString<N>, m: &Machine)
     requires room { length page.old.bytes + length (last_line m.now) ≤ N }
@@ -228,7 +228,7 @@ fn replay_page(bytes: &[u8]) -> ArrayString<16384>
     page
 }
 
-// Writes a page into a buffer; answers how many bytes that is.
+// Writes a page into a buffer; answers how many bytes that is, behind which the buffer stays.
 fn hand_over<const N: usize>(page: &ArrayString<N>, out: &mut [u8; N]) -> usize
     ensures value { (result ≡ length page.now.bytes) × (result ≤ length out.new) }
     ensures out_after { out.new ≡ over page.now.bytes out.old }

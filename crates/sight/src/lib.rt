@@ -30,7 +30,8 @@ fn accesses(n: u32, level: u32, made: u32) -> u32
     (n + 1) * (n - level) + made
 }
 
-// The values of a view, out of the row of its level.
+// The values of a view, out of the row of its level, 1 to 32 by the shape. (Of `array::from_fn` a contract ties an element to the closure only by a chain of
+// calls.)
 #[tactic(auto, using(crate::proofs::Values::values_all))]
 fn view_values(m: &Machine, level: u32, view: u32) -> [u32; 32]
     requires low { 1 ≤ level }
@@ -49,7 +50,7 @@ fn view_values(m: &Machine, level: u32, view: u32) -> [u32; 32]
     values
 }
 
-// How the record of a process says that it stands.
+// How the record of a process says that it stands; a From would stand beside Stage, and public.
 fn standing(stage: Stage) -> Standing
     ensures { result ≡ standing_of stage }
 {

@@ -61,7 +61,7 @@ pub fn read_input<'b>(rt: &(impl io::Input + Eprint), buffer: &'b mut [u8]) -> O
     unread(rt, ErrorKind::Interrupted.into())
 }
 
-// Standard output could not be written: says why on standard error.
+// Standard output could not be written: says why on standard error. (`unread` has another sentence and an answer.)
 fn unwritten(rt: &impl Eprint, why: impl fmt::Display + Drop) {
     let _ = eprintln!(rt; "standard output cannot be written: {why}");
 }

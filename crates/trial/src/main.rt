@@ -94,6 +94,7 @@ fn obey(rt: &impl Print, m: Machine, line: &[u8; 7]) -> Machine {
     c.machine
 }
 
+// `shape_trial` has these lines over another size and another first machine.
 fn main(rt: HostRuntime) {
     let mut buffer = [0; 4096];
     let mut m = machine::new(1).machine;
