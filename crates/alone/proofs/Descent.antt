@@ -33,7 +33,7 @@ use Rattle.moves.specs.declared.Runner.{Runner}
 use Rattle.moves.specs.Coded.Asked.{runner_of}
 use Rattle.moves.proofs.Laws.{runs, refused_running}
 use Rattle.alone.specs.declared.Landing.{Landing}
-use Rattle.alone.specs.Coded.Descent.{written, seen_at, below, Descent, here, descent}
+use Rattle.alone.specs.Coded.Descent.{written, seen_at, level_below, Descent, here, descent}
 
 -- before the write all of the row
 pub gathered_first : (row k f : ℕ) → k ≡ 0 → gathered row k f ≡ row
@@ -65,7 +65,7 @@ module _ (m : Machine) (p : ℕ) (r : Runner) where
   none_below e = ap (λ (y : ℕ). descent y m p r) e
 
   by : ℕ → Bool → Descent
-  by x b = elim b [ true ↦ here (written m p r) (Some (record { level = r.level; view = seen_at m p r })) | false ↦ descent x (written m p r) p (below r) ]
+  by x b = elim b [ true ↦ here (written m p r) (Some (record { level = r.level; view = seen_at m p r })) | false ↦ descent x (written m p r) p (level_below r) ]
 
   next : (x : ℕ) → x ≢ 0 → descent x m p r ≡ by (x - 1) (eqb (size (seen_at m p r)) r.level)
   unfolding descent by
@@ -77,7 +77,7 @@ module _ (m : Machine) (p : ℕ) (r : Runner) where
   unfolding by
   lands_here ne e = next r.level ne ∙ ap (by (r.level - 1)) (eq-eqb (size (seen_at m p r)) r.level e)
 
-  pub falls_below : r.level ≢ 0 → size (seen_at m p r) ≢ r.level → descent r.level m p r ≡ descent (r.level - 1) (written m p r) p (below r)
+  pub falls_below : r.level ≢ 0 → size (seen_at m p r) ≢ r.level → descent r.level m p r ≡ descent (r.level - 1) (written m p r) p (level_below r)
   unfolding by
   falls_below ne e = next r.level ne ∙ ap (by (r.level - 1)) (ne_eqb (size (seen_at m p r)) r.level e)
 
@@ -92,20 +92,20 @@ unfolding descent
 descent_stored zero m p P r = refl
 descent_stored (suc x) m p P r =
     ap (λ (M : Machine). on M (eqb (size (found M)) r.level)) (stored_first (eqb r.made 0))
-    ∙ go (eqb (size (found (written m p r))) r.level) (descent_stored x (written m p r) p P (below r))
+    ∙ go (eqb (size (found (written m p r))) r.level) (descent_stored x (written m p r) p P (level_below r))
   where
     found : Machine → ℕ
     found M = gathered (row_of M r.level) r.made r.found
 
     on : Machine → Bool → Descent
-    on M b = elim b [ true ↦ here M (Some (record { level = r.level; view = found M })) | false ↦ descent x M p (below r) ]
+    on M b = elim b [ true ↦ here M (Some (record { level = r.level; view = found M })) | false ↦ descent x M p (level_below r) ]
 
     stored_first : (z : Bool)
         → cond z (with_register (with_process m p P) r.level p r.value) (with_process m p P) ≡ with_process (cond z (with_register m r.level p r.value) m) p P
     stored_first true = refl
     stored_first false = refl
 
-    go : (b : Bool) → descent x (with_process (written m p r) p P) p (below r) ≡ with_record p P (descent x (written m p r) p (below r))
+    go : (b : Bool) → descent x (with_process (written m p r) p P) p (level_below r) ≡ with_record p P (descent x (written m p r) p (level_below r))
         → on (with_process (written m p r) p P) b ≡ with_record p P (on (written m p r) b)
     go true h = refl
     go false h = h

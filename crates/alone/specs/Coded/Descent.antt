@@ -16,8 +16,9 @@ written m p r = cond (eqb r.made 0) (with_register m r.level p r.value) m
 abbrev pub seen_at : Machine → ℕ → Runner → ℕ
 seen_at m p r = gathered (row_of (written m p r) r.level) r.made r.found
 
-abbrev pub below : Runner → Runner
-below r = record { level = r.level - 1; made = 0; found = 0; value = r.value }
+-- at the level below with no access made (rule 5)
+abbrev pub level_below : Runner → Runner
+level_below r = record { level = r.level - 1; made = 0; found = 0; value = r.value }
 
 pub record Descent : Type 0 where
   pub machine : Machine
@@ -30,4 +31,4 @@ unfoldable pub descent : ℕ → Machine → ℕ → Runner → Descent
 descent zero m p r = here m None
 descent (suc x) m p r =
     elim (eqb (size (seen_at m p r)) r.level)
-    [ true ↦ here (written m p r) (Some (record { level = r.level; view = seen_at m p r })) | false ↦ descent x (written m p r) p (below r) ]
+    [ true ↦ here (written m p r) (Some (record { level = r.level; view = seen_at m p r })) | false ↦ descent x (written m p r) p (level_below r) ]
