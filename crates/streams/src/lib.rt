@@ -41,9 +41,11 @@ fn unread<'b>(rt: &impl Eprint, e: io::Error) -> Option<&'b [u8]>
     None
 }
 
-// Reads standard input until it ends or the buffer is full; answers what came, which is the start of the buffer, or nothing where it could not be read.
+// Reads standard input until it ends or the buffer is full; answers what came, which is the start of the buffer (it lies where the buffer does, and is
+// no longer), or nothing where it could not be read.
 pub fn read_input<'b>(rt: &(impl io::Input + Eprint), buffer: &'b mut [u8]) -> Option<&'b [u8]>
-    ensures { IfSome result (λ came. length came.now ≤ length buffer.old) }
+    ensures within { IfSome result (λ came. length came.now ≤ length buffer.old) }
+    ensures start { IfSome result (λ came. came.ref_ptr ≡ buffer.entry.ref_ptr) }
 {
     let mut stdin = rt.reader();
     let mut done = 0;
