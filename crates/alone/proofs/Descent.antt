@@ -183,7 +183,7 @@ landed_at m p v M None = refused NoLevelBelow m
 abbrev pub landed : Machine → ℕ → ℕ → Descent → Called
 landed m p v d = landed_at m p v d.machine d.landing
 
-descends : (m : Machine) → Held m → (p : ℕ) → Valid m p → (x k f : ℕ) → stage_of m p ≡ Running x k f
+pub descends : (m : Machine) → Held m → (p : ℕ) → Valid m p → (x k f : ℕ) → stage_of m p ≡ Running x k f
     → or_as_at_entry m (finish_from x m p) ≡ landed m p (value_of m p) (descent x m p (at m p x k f))
 descends m h p v x k f e = go (finish_from x m p) (descent x m p (at m p x k f)) (from-ends x m p k f r)
   where

@@ -17,7 +17,7 @@ use Rattle.findings.specs.Findings.{first_finding}
 use Rattle.findings.proofs.First.{first_joined}
 
 -- one test that fails is enough
-every_fails : (n : ℕ) (f : ℕ → Bool) (k : ℕ) → 1 ≤ k → k ≤ n → f k ≡ false → every n f ≡ false
+pub every_fails : (n : ℕ) (f : ℕ → Bool) (k : ℕ) → 1 ≤ k → k ≤ n → f k ≡ false → every n f ≡ false
 every_fails n f k a b h =
     ⊎_elim (λ t. let z : ◌≡◌ {A = Bool} true false = sym (every_true n f t k a b) ∙ h in t ∙ z) (λ e. e) (either (every n f))
 

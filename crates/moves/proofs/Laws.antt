@@ -30,7 +30,7 @@ use Rattle.moves.specs.Coded.Moves.{after_read, turn, move_in, move_of, moved, S
 pub most : (m : Machine) → shaped m ≡ true → m.n ≤ 32
 most m e = (shaped_record m e).most
 
-passed : (m : Machine) (p : ℕ) → shaped m ≡ true → (leb 1 p && leb p m.n) ≡ true → Valid m p
+pub passed : (m : Machine) (p : ℕ) → shaped m ≡ true → (leb 1 p && leb p m.n) ≡ true → Valid m p
 passed m p e f =
     record { shape = e; low = leb-true 1 p (and_first (leb 1 p) (leb p m.n) f); high = leb-true p m.n (and_second (leb 1 p) (leb p m.n) f) }
 

@@ -334,7 +334,7 @@ module _ (m : Machine) (low own : List ℕ) (R : ReadOff m low own) where
     unfolding shaped_register
     row_shaped x u = row_agrees (leb x m.n) x u
 
-    rows_shaped : rows_good m.n m.filled m.values low own ≡ shaped_registers m
+    pub rows_shaped : rows_good m.n m.filled m.values low own ≡ shaped_registers m
     unfolding rows_good
     rows_shaped =
         every_ext 32 (λ x. row_good m.n m.values low own (row_of m x) x) (λ x. every 32 (shaped_register m x)) (λ x l u. row_shaped x u)
