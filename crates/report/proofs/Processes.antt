@@ -1,11 +1,12 @@
 -- The lines of the processes, one after another, and the participants, counted one after another.
 use Prim.Native.Nat.{ℕ, zero, suc, ◌+◌, ◌-◌, ◌*◌, ◌≤◌}
 use mathlib.Core.Bool.{Bool, true, false, ◌&&◌, cond}
-use mathlib.Core.Path.{◌≡◌, refl, sym, ap, ap₂, ◌∙◌}
-use mathlib.Core.List.{List, ◌++◌, append-nil, append_assoc}
+use mathlib.Core.Path.{◌≡◌, refl, ap, ap₂, ◌∙◌}
+use mathlib.Core.List.{List}
 use native.Mathlib.Omega.{arith}
-use lib.ListN.{length, get_or, take}
+use lib.ListN.{length, get_or, take, drop}
 use borrow.Author.Tests.{le-leb}
+use borrow.Rule.Slice.PartMut.{put_mid}
 use Rattle.std.specs.List.{count_by}
 use Rattle.std.proofs.lemmas.List.Sums.{count_by_more_yes, count_by_more_no}
 use Rattle.sets.specs.Members.{count, tick}
@@ -17,8 +18,10 @@ use Rattle.rules.specs.Shape.{Shaped}
 use Rattle.rules.specs.Calls.{looked, unseen, look_of}
 use Rattle.rules.proofs.Laws.Shape.{record_shaped}
 use Rattle.text.specs.Parts.{joined}
+use Rattle.text.specs.Stores.{over}
 use Rattle.text.proofs.Parts.{joined_more}
 use Rattle.output.specs.Lines.{sight_line, process_line, partaking}
+use Rattle.report.proofs.Pages.{Handed, handed_more}
 
 -- a look at a process of a well shaped machine shows what its record says
 pub look_line : (m : Machine) (i : ℕ) → Shaped m → 1 ≤ i → i ≤ m.n → sight_line i (look_of m i) ≡ process_line m i
@@ -27,22 +30,22 @@ look_line m i s l h =
     ap₂ (λ (t u : Bool). sight_line i (cond t (cond u (looked m (stage_of m i)) (unseen NoProcess)) (unseen NotShaped))) (record_shaped m s)
     (ap₂ (λ (t u : Bool). t && u) (le-leb 1 i l) (le-leb i m.n h))
 
--- the lines of the processes before i are written, each with at most 485 bytes
-pub record Written (m : Machine) (b₀ b : List ℕ) (i : ℕ) : Type 0 where
-  pub lines : b ≡ b₀ ++ joined 1 (i - 1) (process_line m)
-  pub short : length b ≤ length b₀ + 485 * (i - 1)
+-- the lines of the processes before i are handed over, each with at most 485 bytes
+pub record Written (m : Machine) (out₀ out : List ℕ) (at i : ℕ) : Type 0 where
+  pub lines : Handed out₀ (joined 1 (i - 1) (process_line m)) out at
+  pub short : at ≤ 485 * (i - 1)
 
-pub none_written : (m : Machine) (b : List ℕ) → Written m b b 1
+pub none_written : (m : Machine) (out : List ℕ) → Written m out out 0 1
 unfolding joined
-none_written m b = record { lines = sym (append-nil b); short = omega arith }
+none_written m out = record { lines = record { lies = refl; ends = refl }; short = omega arith }
 
-pub one_written : {m : Machine} {b₀ b b' : List ℕ} {i : ℕ} → 1 ≤ i → Written m b₀ b i
-    → b' ≡ b ++ process_line m i → length b' ≤ length b + 485 → Written m b₀ b' (i + 1)
-one_written {m} {b₀} {b} {b'} {i} h w e l =
+pub one_written : {m : Machine} {out₀ out page z : List ℕ} {at i k n : ℕ} → 1 ≤ i → Written m out₀ out at i → page ≡ process_line m i → n ≤ 485
+    → k ≡ length out - at → n ≡ length page → z ≡ over page (take k (drop at out)) → Written m out₀ (put_mid at k out z) (at + n) (i + 1)
+one_written {m} {out₀} {out} {page} {z} {at} {i} {k} {n} h w e l d q o =
     let s : i + 1 - 1 ≡ suc (i - 1) = omega arith in
     let j : suc (i - 1) ≡ i = omega arith in
     record {
-      lines = rw (s, joined_more (i - 1) (process_line m), j, ← append_assoc) (rw w.lines at e);
+      lines = rw (s, joined_more (i - 1) (process_line m), j, ← e) (handed_more page w.lines d q o);
       short = omega (arith, w.short);
     }
 

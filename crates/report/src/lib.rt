@@ -1,4 +1,4 @@
-// The printed output of both programs (document 01, "Printed output"): each text is written on a page, and the page into a lent buffer.
+// The printed output of both programs (document 01, "Printed output"): each line is written on a page, and the page into a lent buffer.
 // Each function asks for the room of a text of its own, so no type carries that for all.
 #![tactic(auto)]
 
@@ -20,6 +20,10 @@ use rules::{Machine, Sight, Stage, Standing};
 const MOST: usize = 65535;
 
 const TOO_LONG: &str = "too long\n";
+
+// The most bytes of a line: a process's, with 32 pairs. A page holds one line: a page of a whole text would be as large as the lent
+// buffer, and to be set and copied on every run.
+const LINE: usize = 485;
 
 // A number in decimal digits.
 #[tactic(auto, using(text::proofs::Decimal::printed_decimal))]
@@ -156,16 +160,46 @@ fn put_process<const N: usize>(page: &mut ArrayString<N>, m: &Machine, i: u32)
     put_sight(page, i, &sight::look(*m, i));
 }
 
-// The lines of the processes, ascending.
-fn put_processes<const N: usize>(page: &mut ArrayString<N>, m: &Machine)
-    requires room { length page.old.bytes + 485 * m.now.n ≤ N }
-    requires shaped { Shaped m.now }
-    ensures lines { page.new.bytes ≡ page.old.bytes ++ joined 1 m.now.n (process_line m.now) }
-    ensures short { length page.new.bytes ≤ length page.old.bytes + 485 * m.now.n }
+// Writes a text at the start of a buffer; answers how many bytes that is, behind which the buffer stays.
+fn write_text(text: &str, out: &mut [u8]) -> usize
+    requires { length text.now ≤ length out.old }
+    ensures value { result ≡ length text.now }
+    ensures out_after { out.new ≡ over text.now out.old }
 {
+    let bytes = text.as_bytes();
+    out[..bytes.len()].copy_from_slice(bytes);
+    bytes.len()
+}
+
+// Writes a page at the start of a buffer, and clears it for the next line; answers as write_text.
+fn hand_over<const N: usize>(page: &mut ArrayString<N>, out: &mut [u8]) -> usize
+    requires { length page.old.bytes ≤ length out.old }
+    ensures value { result ≡ length page.old.bytes }
+    ensures out_after { out.new ≡ over page.old.bytes out.old }
+    ensures cleared { page.new.bytes ≡ [] }
+{
+    let length = write_text(page.as_str(), out);
+    page.clear();
+    length
+}
+
+// The lines of the processes, ascending, each handed over before the next; answers how many bytes that is.
+fn put_processes<const N: usize>(page: &mut ArrayString<N>, m: &Machine, out: &mut [u8]) -> usize
+    requires blank { page.old.bytes ≡ [] }
+    requires line_room { 485 ≤ N }
+    requires room { 485 * m.now.n ≤ length out.old }
+    requires shaped { Shaped m.now }
+    ensures value { result ≡ length (joined 1 m.now.n (process_line m.now)) }
+    ensures short { result ≤ 485 * m.now.n }
+    ensures out_after { out.new ≡ over (joined 1 m.now.n (process_line m.now)) out.old }
+    ensures cleared { page.new.bytes ≡ [] }
+{
+    let mut at = 0;
     for i in 1..=m.n {
         put_process(page, m, i);
+        at += hand_over(page, &mut out[at..]);
     }
+    at
 }
 
 // The first line.
@@ -198,58 +232,35 @@ fn put_last<const N: usize>(page: &mut ArrayString<N>, m: &Machine)
     put_line(page, "participants", &[partaking(m)]);
 }
 
-// The text that the program `verdict` prints. The guard stands in both pages: to share it, a function would take the
-// writing of a page as a closure, with clauses about what that asks for and leaves.
+// What the program `verdict` prints of its input; answers how many bytes that is. The guard stands in both texts: to share it,
+// a function would take the writing of a text as a closure, with clauses about what that asks for and leaves.
 #[tactic(auto, using(crate::proofs::Fits::verdict_length), unfolding(output::specs::Lines::verdict_text))]
-fn verdict_page(bytes: &[u8]) -> ArrayString<64>
-    ensures { result.bytes ≡ verdict_text bytes.now }
-{
-    if bytes.len() > MOST {
-        return ArrayString::from(TOO_LONG).unwrap();
-    }
-    let mut page = ArrayString::new();
-    put_verdict(&mut page, &checker::verdict(bytes));
-    page
-}
-
-// The text that the program `replay` prints.
-#[tactic(auto, using(crate::proofs::Fits::replay_fits), unfolding(output::specs::Lines::replay_text))]
-fn replay_page(bytes: &[u8]) -> ArrayString<16384>
-    ensures { result.bytes ≡ replay_text bytes.now }
-{
-    if bytes.len() > MOST {
-        return ArrayString::from(TOO_LONG).unwrap();
-    }
-    let mut page = ArrayString::new();
-    let r = orders::replay(bytes, 65535);
-    put_run(&mut page, &r);
-    put_processes(&mut page, &r.machine);
-    put_last(&mut page, &r.machine);
-    page
-}
-
-// Writes a page into a buffer; answers how many bytes that is, behind which the buffer stays.
-fn hand_over<const N: usize>(page: &ArrayString<N>, out: &mut [u8; N]) -> usize
-    ensures value { (result ≡ length page.now.bytes) × (result ≤ length out.new) }
-    ensures out_after { out.new ≡ over page.now.bytes out.old }
-{
-    let text = page.as_str().as_bytes();
-    out[..text.len()].copy_from_slice(text);
-    text.len()
-}
-
-// What the program `verdict` prints of its input; answers how many bytes that is.
 pub fn verdict_text(bytes: &[u8], out: &mut [u8; 64]) -> usize
     ensures value { (result ≡ length (verdict_text bytes.now)) × (result ≤ length out.new) }
     ensures out_after { out.new ≡ over (verdict_text bytes.now) out.old }
 {
-    hand_over(&verdict_page(bytes), out)
+    if bytes.len() > MOST {
+        return write_text(TOO_LONG, out);
+    }
+    let mut page = ArrayString::<64>::new();
+    put_verdict(&mut page, &checker::verdict(bytes));
+    hand_over(&mut page, out)
 }
 
 // What the program `replay` prints of its input; answers how many bytes that is.
+#[tactic(auto, using(crate::proofs::Fits::replay_fits), unfolding(output::specs::Lines::replay_text))]
 pub fn replay_text(bytes: &[u8], out: &mut [u8; 16384]) -> usize
     ensures value { (result ≡ length (replay_text bytes.now)) × (result ≤ length out.new) }
     ensures out_after { out.new ≡ over (replay_text bytes.now) out.old }
 {
-    hand_over(&replay_page(bytes), out)
+    if bytes.len() > MOST {
+        return write_text(TOO_LONG, out);
+    }
+    let r = orders::replay(bytes, 65535);
+    let mut page = ArrayString::<LINE>::new();
+    put_run(&mut page, &r);
+    let run = hand_over(&mut page, out);
+    let processes = run + put_processes(&mut page, &r.machine, &mut out[run..]);
+    put_last(&mut page, &r.machine);
+    processes + hand_over(&mut page, &mut out[processes..])
 }
