@@ -6,7 +6,10 @@ use Rattle.std.specs.Option.{IsSomeAnd}
 use Rattle.std.specs.Bool.{MatchBool}
 use Rattle.std.specs.Iterator.Runs.{Run, SomeRun, ItemsCountUp, CallKeepsClosure, AllItemsGive, AnyItemGives, IsFirstToGive}
 use Rattle.std.specs.Range.{range_inclusive_start, range_inclusive_end, range_inclusive_exhausted}
-use Rattle.std.proofs.iter.runs.Sources.{nat_range_inclusive_steps, inclusive_listed}
+use Rattle.std.specs.declared.ops.Range.{Range}
+use Rattle.std.specs.declared.ops.RangeInclusive.{RangeInclusive}
+use Rattle.std.proofs.iter.Yields.{nat_range_steps}
+use Rattle.std.proofs.iter.runs.Sources.{nat_range_inclusive_steps, range_runs, inclusive_listed}
 use Rattle.std.proofs.lemmas.Option.{none-some, same_Some}
 use mathlib.Core.Logic.{⊎_elim}
 use denote.Param.Members.{Mut, Called}
@@ -30,24 +33,30 @@ and_item : (o : Option ℕ) (i : ℕ) (P : ℕ → Type 0) → option_map (λ y.
 and_item None i P e h = absurd h
 and_item (Some x) i P e h = subst P (same_Some x i e) h
 
--- a range of k processes from a on, and a run over it
-module _ {s : _} (a k : ℕ) (unspent : range_inclusive_exhausted s ≡ false) (start : range_inclusive_start s ≡ a)
-    (end : range_inclusive_end s + 1 ≡ a + k) where
-  module _ (p : Run nat_range_inclusive_steps) (o : p.from ≡ s) where
-    counts : ItemsCountUp p a (a + k)
-    counts =
-        let l = inclusive_listed p p.seen in
-        let from : l.0 ≡ a = l.2 ∙ ap range_inclusive_start o ∙ start in
-        let to : l.1 ≡ a + k = l.3 ∙ ap (λ r. range_inclusive_end r + 1) o ∙ end in
-        subst (ItemsCountUp p a) to (subst (λ (x : ℕ). ItemsCountUp p x l.1) from (l.4 (ap range_inclusive_exhausted o ∙ unspent)).0)
+-- `a..=b` and `a..b` count the k processes from a on
+abbrev Counts : {S : Type 0} → (S → Option ℕ → S → Type 0) → S → ℕ → ℕ → Type 0
+Counts steps s a k = (p : Run steps) → p.from ≡ s → ItemsCountUp p a (a + k)
 
-    item : (i : ℕ) → a ≤ i → i < a + p.len → option_map (λ y. y) (p.at (i - a)) ≡ Some i
-    item i low high = let e : a + (i - a) ≡ i = omega arith in counts.3 (i - a) (omega arith) ∙ ap Some e
+pub inclusive : {s : RangeInclusive ℕ} (a k : ℕ) → range_inclusive_exhausted s ≡ false → range_inclusive_start s ≡ a
+    → range_inclusive_end s + 1 ≡ a + k → Counts nat_range_inclusive_steps s a k
+inclusive a k unspent start end p o =
+    let l = inclusive_listed p p.seen in
+    let from : l.0 ≡ a = l.2 ∙ ap range_inclusive_start o ∙ start in
+    let to : l.1 ≡ a + k = l.3 ∙ ap (λ r. range_inclusive_end r + 1) o ∙ end in
+    subst (ItemsCountUp p a) to (subst (λ (x : ℕ). ItemsCountUp p x l.1) from (l.4 (ap range_inclusive_exhausted o ∙ unspent)).0)
+
+pub half_open : (a k : ℕ) → Counts nat_range_steps (record { start = a; end = a + k }) a k
+half_open a k p o = subst (λ (r : Range ℕ). ItemsCountUp p r.start r.end) o (range_runs p p.seen)
+
+-- a run over k processes from a on
+module _ {S : Type 0} {steps : S → Option ℕ → S → Type 0} {s : S} (a k : ℕ) (counts : Counts steps s a k) where
+  item : (p : Run steps) → p.from ≡ s → (i : ℕ) → a ≤ i → i < a + p.len → option_map (λ y. y) (p.at (i - a)) ≡ Some i
+  item p o i low high = let e : a + (i - a) ≡ i = omega arith in (counts p o).3 (i - a) (omega arith) ∙ ap Some e
 
   module _ {F A : Type 0} {g : Mut F (ℕ × Unit {0}) (Option A)} {f : F} (parts : ℕ → List A)
       (keeps : CallKeepsClosure g f) (answers : (x : ℕ) (q : Option A) → Called g f (x, tt) q f → q ≡ first_finding (parts x)) where
     pub finds : (r : Option A)
-        → SomeRun nat_range_inclusive_steps s (λ p.
+        → SomeRun steps s (λ p.
         MatchOption r (IsTrue p.whole × AllItemsGive p g f None) (λ y. (i : ℕ) × (i < p.len) × (p.len ≡ i + 1) × IsFirstToGive p g f (Some y) None i))
         → r ≡ first_finding (joined a k parts)
     finds None (p, o, h) =
@@ -70,7 +79,7 @@ module _ {s : _} (a k : ℕ) (unspent : range_inclusive_exhausted s ≡ false) (
 
   module _ {F : Type 0} {g : Mut F (ℕ × Unit {0}) Bool} {f : F} (one : a ≡ 1) (test : ℕ → Bool)
       (keeps : CallKeepsClosure g f) (answers : (x : ℕ) (q : Bool) → Called g f (x, tt) q f → q ≡ test x) where
-    pub checks : (r : Bool) → SomeRun nat_range_inclusive_steps s (λ p. MatchBool r (IsTrue p.whole × AllItemsGive p g f true) (AnyItemGives p g f false))
+    pub checks : (r : Bool) → SomeRun steps s (λ p. MatchBool r (IsTrue p.whole × AllItemsGive p g f true) (AnyItemGives p g f false))
         → r ≡ every k test
     checks true (p, o, h) =
         let whole : p.len ≡ k = (counts p o).1 h.0 ∙ omega arith in

@@ -4,14 +4,14 @@
 ghost use Rattle.std.specs.Prelude.{◌≡◌, ◌≤◌};
 ghost use Rattle.formats.specs.Views.{seen_by, value_by};
 ghost use Rattle.text.specs.Parts.{joined};
-ghost use Rattle.findings.specs.Findings.{view_in, same_at, agree, breaks};
+ghost use Rattle.findings.specs.Findings.{view_in, agree, breaks};
 ghost use Rattle.findings.specs.Findings.{of_one, of_ones, of_pair, of_pairs, first_finding, check_of};
 ghost use Rattle.findings.specs.Verdict.{verdict_of};
 
 use findings::{FileVerdict, Finding, Found};
 use formats::{FileAnswer, Views};
 
-// The processes that i's view names, and below the value that it gives; `row` of `shape` and `cell` of `orders` read a machine so.
+// The processes that i's view names; `row` of `shape` reads a machine so.
 fn seen(v: &Views, i: u32) -> u32
     ensures { result ≡ seen_by v.now i }
 {
@@ -21,30 +21,25 @@ fn seen(v: &Views, i: u32) -> u32
 
 // The value that i's view gives to process k.
 fn value(v: &Views, i: u32, k: u32) -> u32
+    requires { (1 ≤ i) × (i ≤ 32) × (1 ≤ k) × (k ≤ 32) }
     ensures { result ≡ value_by v.now i k }
 {
-    let at = 32 * (i.saturating_sub(1) as usize) + k.saturating_sub(1) as usize;
-    v.values.get(at).copied().unwrap_or(0)
+    v.values[32 * (i as usize - 1) + (k as usize - 1)]
 }
 
-// The views of i and j do not give process k different values.
-fn same_at(v: &Views, i: u32, j: u32, k: u32) -> bool
-    ensures { result ≡ same_at (view_in v.now i) (view_in v.now j) k }
-{
-    let both = sets::has(seen(v, i), k) && sets::has(seen(v, j), k);
-    !both || value(v, i, k) == value(v, j, k)
-}
-
-// They give no process different values.
+// The views of i and j give no process different values. This runs 32 times a pair, so the range is half open: `1..=32` tests at each step if it is spent.
 fn agree(v: &Views, i: u32, j: u32) -> bool
+    requires { (1 ≤ i) × (i ≤ 32) × (1 ≤ j) × (j ≤ 32) }
     ensures { result ≡ agree (view_in v.now i) (view_in v.now j) }
 {
-    (1..=32).all(|k| same_at(v, i, j, k))
+    let both = seen(v, i) & seen(v, j);
+    (1..33).all(|k| !sets::has(both, k) || value(v, i, k) == value(v, j, k))
 }
 
 // What the views of i and j break first: 23, 21, 22. Where they agree, one's pairs are in the other's exactly if its processes are.
 #[tactic(auto, using(findings::proofs::Agreement::breaks_agreeing, findings::proofs::Agreement::breaks_disagreeing))]
 fn breaks(v: &Views, i: u32, j: u32) -> Option<Finding>
+    requires { (1 ≤ i) × (i ≤ 32) × (1 ≤ j) × (j ≤ 32) }
     ensures { result ≡ first_finding (breaks (view_in v.now i) (view_in v.now j) i j) }
 {
     if !agree(v, i, j) {

@@ -51,10 +51,10 @@ fn refused(s: &[u8], a: FileAnswer, at: usize) -> ViewsRead
     }
 }
 
-// The values of a view's members, which stand from a place on, ascending, stored as those of its process, which 14 has tested.
-fn values_read(s: &[u8], from: usize, r: ViewRecord, mut values: [u32; 1024]) -> [u32; 1024]
+// Stores the values of a view's members, which stand from a place on, ascending, as those of its process, which 14 has tested.
+fn values_read(s: &[u8], from: usize, r: ViewRecord, values: &mut [u32; 1024])
     requires { (from ≤ length s.now) × (1 ≤ r.process) × (r.process ≤ 32) }
-    ensures { result ≡ values_read s.now from r.process r.set 32 values }
+    ensures { values.new ≡ values_read s.now from r.process r.set 32 values.old }
 {
     let row = 32 * (r.process - 1);
     let mut place = from;
@@ -64,18 +64,16 @@ fn values_read(s: &[u8], from: usize, r: ViewRecord, mut values: [u32; 1024]) ->
             place += 4;
         }
     }
-    values
 }
 
-// The views with one more beside them, whose record stands at a place.
-fn with_view(s: &[u8], at: usize, mut v: Views, r: ViewRecord) -> Views
+// Puts one more beside the views, whose record stands at a place.
+fn with_view(s: &[u8], at: usize, v: &mut Views, r: ViewRecord)
     requires { (at + 7 ≤ length s.now) × (1 ≤ r.process) × (r.process ≤ 32) }
-    ensures { result ≡ with_view s.now at v r.process r.set }
+    ensures { v.new ≡ with_view s.now at v.old r.process r.set }
 {
     v.own = sets::plus(v.own, r.process);
     v.seen[(r.process - 1) as usize] = r.set;
-    v.values = values_read(s, at + 7, r, v.values);
-    v
+    values_read(s, at + 7, r, &mut v.values);
 }
 
 // The records after the header, whose n is 1 to 32; a header is a number, as document 01 has it, and not a type of its own.
@@ -89,7 +87,7 @@ fn read_records(s: &[u8], n: u32) -> ViewsRead
     loop {
         match tested_at(s, at, &views) {
             Ok(Some(r)) => {
-                views = with_view(s, at, views, r);
+                with_view(s, at, &mut views, r);
                 at += 7 + 4 * (sets::size(r.set) as usize);
             }
             Ok(None) => {

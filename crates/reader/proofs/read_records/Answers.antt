@@ -6,8 +6,8 @@ use Rattle.reader.proofs.read_records.Goals as goal
 pub loop-r-init : goal.loop-r-init
 loop-r-init c = rw c.none_of-views.ensures (under_first _ _ c.requires.0 c.requires.1)
 
-pub with_view-views-requires : goal.with_view-views-requires
-with_view-views-requires c =
+pub with_view-requires : goal.with_view-requires
+with_view-requires c =
     let t = (under_view c.loop-r.invariant c.in-Ok-Some.r (cc)).0 in
     (omega (arith, t.whole), t.low, omega (arith, t.high))
 
@@ -17,7 +17,7 @@ loop-r-smaller c =
     omega (arith, t.whole)
 
 pub loop-r-preserved : goal.loop-r-preserved
-loop-r-preserved c = rw (c.size.ensures, c.with_view-views.ensures) (under_view c.loop-r.invariant c.in-Ok-Some.r (cc)).1
+loop-r-preserved c = rw (c.size.ensures, c.with_view.ensures) (under_view c.loop-r.invariant c.in-Ok-Some.r (cc)).1
 
 pub returns-in-Ok-None : goal.returns-in-Ok-None
 returns-in-Ok-None c = under_end c.loop-r.invariant (cc)
