@@ -9,7 +9,6 @@ use Rattle.sets.specs.Members.{has}
 use Rattle.rules.specs.declared.Stage.{Stage}
 use Rattle.rules.specs.declared.Stage.TheVariants.{Absent, Running, Finished, Crashed}
 use Rattle.rules.specs.declared.Machine.{Machine}
-use Rattle.rules.specs.Shape.{shaped}
 use Rattle.rules.proofs.Laws.Shape.{shaped_record}
 use Rattle.rules.specs.Stands.{stage_of, cell_of}
 use Rattle.rules.specs.State.{finished, level_of}
@@ -56,8 +55,4 @@ bytes_stored m =
     (joined_ext 1 32 (part_of m) (λ i. cond (owns (views_of m) i) (view_bytes (views_of m) i) [])
     (λ i low high. sym (listed m i low (omega arith) (stage_of m i) refl)))
 
--- a well shaped machine has at most 32 processes
-pub few : (m : Machine) → shaped m ≡ true → m.n ≤ 32
-few m e = (shaped_record m e).most
-
-pub ruleset stored = (bytes_stored, few)
+pub ruleset stored = (bytes_stored, shaped_record)

@@ -2,16 +2,16 @@
 #![tactic(auto)]
 
 ghost use Rattle.std.specs.Prelude.{◌≡◌, ◌≤◌, length};
-ghost use Rattle.rules.specs.Stands.{cell_in};
+ghost use Rattle.rules.specs.Shape.{Shaped};
 ghost use Rattle.rules.specs.Calls.{fresh};
 ghost use Rattle.history.specs.Runs.{answer};
 ghost use Rattle.text.specs.Parts.{joined};
+ghost use Rattle.text.specs.Stores.{over};
 ghost use Rattle.replays.specs.Replays.{call_of, width, replayed, orders_from, replay_of};
 ghost use Rattle.replays.specs.Coded.Turns.{none, counted, next_order, ends, CountsFit};
 ghost use Rattle.replays.specs.Writes.{write_of, buffer_of};
 ghost use Rattle.orders.specs.Coded.Places.{member_bytes, record_bytes, machine_bytes};
 
-use arrayvec::ArrayVec;
 use formats::{FileAnswer, Order};
 use replays::{Counts, Replayed, WriteAnswer, Written};
 use rules::{Answer, Called, Machine, Stage};
@@ -134,68 +134,66 @@ pub fn replay(s: &[u8], budget: u32) -> Replayed
     }
 }
 
-// The bytes of a full view's values, of its record, and of a file of 32 such records.
-const VALUES: usize = 4 * 32;
-
-const RECORD: usize = 7 + VALUES;
-
-const FILE: usize = 3 + 32 * RECORD;
-
-// The value that stands for a process in the row of a level.
-fn cell(values: &[u32; 1024], level: u32, member: u32) -> u32
-    ensures { result ≡ cell_in values.now level member }
+// The length of the view file of a machine.
+#[tactic(auto, using(crate::proofs::Places::counts), unfolding(crate::specs::Coded::Places::machine_bytes))]
+fn file_len(m: &Machine) -> usize
+    ensures { result ≡ length (machine_bytes m.now) }
 {
-    let at = 32 * (level.saturating_sub(1) as usize) + member.saturating_sub(1) as usize;
-    values.get(at).copied().unwrap_or(0)
+    let mut bytes = 3;
+    for p in 1..=32usize {
+        if let Stage::Finished { view, .. } = m.processes[p - 1].stage {
+            bytes += 7 + 4 * sets::size(view) as usize;
+        }
+    }
+    bytes
 }
 
-// The values of a view, out of the row of its level, ascending.
+// The values of a view, out of the row of its level, ascending, at the start of a buffer; answers their length.
 #[tactic(auto, using(crate::proofs::Places::parts))]
-fn values_of(values: &[u32; 1024], level: u32, view: u32) -> ArrayVec<u8, VALUES>
-    ensures { result.items ≡ joined 1 32 (member_bytes values.now level view) }
+fn put_values(buffer: &mut [u8], values: &[u32; 1024], level: u32, view: u32) -> usize
+    requires room { length (joined 1 32 (member_bytes values.now level view)) ≤ length buffer.old }
+    requires in_rows { (1 ≤ level) × (level ≤ 32) }
+    ensures bytes { result ≡ length (joined 1 32 (member_bytes values.now level view)) }
+    ensures buffer_after { buffer.new ≡ over (joined 1 32 (member_bytes values.now level view)) buffer.old }
 {
-    let mut bytes = ArrayVec::new();
+    let row = &values[32 * (level as usize - 1)..];
+    let mut at = 0;
     for member in 1..=32 {
         if sets::has(view, member) {
-            let value = cell(values, level, member);
-            bytes.try_extend_from_slice(&value.to_le_bytes()).unwrap();
+            buffer[at..at + 4].copy_from_slice(&row[member as usize - 1].to_le_bytes());
+            at += 4;
         }
     }
-    bytes
+    at
 }
 
-// The record of process p, which finished at a level with a view.
+// The record of process p, which finished at a level with a view, at the start of a buffer; answers its length.
 #[tactic(auto, unfolding(crate::specs::Coded::Places::record_bytes))]
-fn record_of(values: &[u32; 1024], p: u8, level: u32, view: u32) -> ArrayVec<u8, RECORD>
-    ensures { result.items ≡ record_bytes values.now p level view }
+fn put_record(buffer: &mut [u8], values: &[u32; 1024], p: u8, level: u32, view: u32) -> usize
+    requires room { length (record_bytes values.now p level view) ≤ length buffer.old }
+    requires in_rows { (1 ≤ level) × (level ≤ 32) }
+    ensures bytes { result ≡ length (record_bytes values.now p level view) }
+    ensures buffer_after { buffer.new ≡ over (record_bytes values.now p level view) buffer.old }
 {
-    let mut bytes = ArrayVec::new();
-    bytes.try_extend_from_slice(&[b'V', b'W', p]).unwrap();
-    bytes.try_extend_from_slice(&view.to_le_bytes()).unwrap();
-    bytes
-        .try_extend_from_slice(&values_of(values, level, view))
-        .unwrap();
-    bytes
+    buffer[..3].copy_from_slice(&[b'V', b'W', p]);
+    buffer[3..7].copy_from_slice(&view.to_le_bytes());
+    7 + put_values(&mut buffer[7..], values, level, view)
 }
 
-// The view file of a machine: `MN`, then the finished processes in ascending order.
+// The view file of a machine, at the start of a buffer: `MN`, then the finished processes in ascending order.
 #[tactic(auto, using(crate::proofs::Places::parts), unfolding(crate::specs::Coded::Places::machine_bytes))]
-fn file_of(m: &Machine) -> ArrayVec<u8, FILE>
-    requires { m.now.n ≤ 32 }
-    ensures { result.items ≡ machine_bytes m.now }
+fn put_file(buffer: &mut [u8], m: &Machine)
+    requires room { length (machine_bytes m.now) ≤ length buffer.old }
+    requires shaped { Shaped m.now }
+    ensures { buffer.new ≡ over (machine_bytes m.now) buffer.old }
 {
-    let mut bytes = ArrayVec::new();
-    bytes
-        .try_extend_from_slice(&[b'M', b'N', m.n as u8])
-        .unwrap();
+    buffer[..3].copy_from_slice(&[b'M', b'N', m.n as u8]);
+    let mut at = 3;
     for p in 1..=32 {
         if let Stage::Finished { level, view } = m.processes[p as usize - 1].stage {
-            bytes
-                .try_extend_from_slice(&record_of(&m.values, p, level, view))
-                .unwrap();
+            at += put_record(&mut buffer[at..], &m.values, p, level, view);
         }
     }
-    bytes
 }
 
 // The view writer: refuses 1 and 17, and then writes nothing.
@@ -210,15 +208,14 @@ pub fn write_views(m: Machine, buffer: &mut [u8]) -> Written
             bytes: 0,
         };
     }
-    let file = file_of(&m);
-    let bytes = file.len();
+    let bytes = file_len(&m);
     if buffer.len() < bytes {
         return Written {
             answer: WriteAnswer::TooShort,
             bytes: 0,
         };
     }
-    buffer[..bytes].copy_from_slice(&file);
+    put_file(buffer, &m);
     Written {
         answer: WriteAnswer::Done,
         bytes,
