@@ -3,7 +3,7 @@
 
 ghost use Rattle.std.specs.Prelude.{◌≡◌, ◌≤◌, length};
 ghost use Rattle.rules.specs.Shape.{Shaped};
-ghost use Rattle.rules.specs.Calls.{fresh};
+ghost use Rattle.rules.specs.Calls.{fresh, enter_of, step_of, crash_of};
 ghost use Rattle.history.specs.Runs.{answer};
 ghost use Rattle.text.specs.Parts.{joined};
 ghost use Rattle.text.specs.Stores.{over};
@@ -14,17 +14,45 @@ ghost use Rattle.orders.specs.Coded.Places.{member_bytes, record_bytes, machine_
 
 use formats::{FileAnswer, Order};
 use replays::{Counts, Replayed, WriteAnswer, Written};
-use rules::{Answer, Called, Machine, Stage};
+use rules::{Answer, Machine, Stage};
 
-// The call that an order asks for, made on the machine. Inlined, so that the state that it hands back is copied once less an order.
-#[inline(always)]
-fn obey(m: Machine, order: Order) -> Called
-    ensures { result ≡ answer m (call_of order) }
+// The calls of the machine on a state that is lent. A function each: with the three in one match the state that they hand back was copied once more an order.
+fn enter(m: &mut Machine, p: u32, v: u32) -> Answer
+    ensures answer { result ≡ (enter_of m.old p v).answer }
+    ensures machine { m.new ≡ (enter_of m.old p v).machine }
+{
+    let called = machine::enter(*m, p, v);
+    *m = called.machine;
+    called.answer
+}
+
+fn step(m: &mut Machine, p: u32) -> Answer
+    ensures answer { result ≡ (step_of m.old p).answer }
+    ensures machine { m.new ≡ (step_of m.old p).machine }
+{
+    let called = machine::step(*m, p);
+    *m = called.machine;
+    called.answer
+}
+
+fn crash(m: &mut Machine, p: u32) -> Answer
+    ensures answer { result ≡ (crash_of m.old p).answer }
+    ensures machine { m.new ≡ (crash_of m.old p).machine }
+{
+    let called = machine::crash(*m, p);
+    *m = called.machine;
+    called.answer
+}
+
+// The call that an order asks for, made on the machine.
+fn obey(m: &mut Machine, order: Order) -> Answer
+    ensures answer { result ≡ (answer m.old (call_of order)).answer }
+    ensures machine { m.new ≡ (answer m.old (call_of order)).machine }
 {
     match order {
-        Order::Enter { process, value } => machine::enter(m, process, value),
-        Order::Step { process } => machine::step(m, process),
-        Order::Crash { process } => machine::crash(m, process),
+        Order::Enter { process, value } => enter(m, process, value),
+        Order::Step { process } => step(m, process),
+        Order::Crash { process } => crash(m, process),
     }
 }
 
@@ -112,9 +140,8 @@ fn replay_orders(s: &[u8], n: u32, budget: u32) -> Replayed
     loop {
         match next_order(s, at, counts.taken == budget) {
             Ok(Some(order)) => {
-                let called = obey(m, order);
-                counts = counted(counts, order, called.answer);
-                m = called.machine;
+                let a = obey(&mut m, order);
+                counts = counted(counts, order, a);
                 at += width(order);
             }
             Ok(None) => return ends(s, FileAnswer::Whole, s.len(), counts, m),

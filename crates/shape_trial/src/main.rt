@@ -8,6 +8,9 @@ ghost use Rattle.std.specs.Prelude.{◌<◌};
 
 use rules::{Machine, Process, Stage};
 
+// The system's number of standard input.
+const STDIN: i32 = 0;
+
 // One decimal digit; any other byte is 0. `trial` has the same line: a crate for it is no plainer.
 fn digit(b: u8) -> u32
     ensures { result < 10 }
@@ -104,10 +107,10 @@ fn obey(rt: &impl Print, m: Machine, line: &[u8; 14]) -> Machine {
 
 fn main(rt: HostRuntime) {
     let mut buffer = [0; 65536];
+    // a read that fails is the script's end
+    let got = io::read_full(STDIN, &mut buffer);
     let mut m = fresh(1);
-    if let Some(script) = streams::read_input(&rt, &mut buffer) {
-        for line in script.as_chunks().0 {
-            m = obey(&rt, m, line);
-        }
+    for line in buffer[..got].as_chunks().0 {
+        m = obey(&rt, m, line);
     }
 }

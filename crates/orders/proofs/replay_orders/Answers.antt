@@ -10,7 +10,7 @@ loop-order-smaller c =
 
 pub loop-order-preserved : goal.loop-order-preserved
 loop-order-preserved c =
-    rw (c.counted-counts.ensures, c.obey-called.ensures, c.width-at.ensures) (going_order c.loop-order.invariant c.in-Ok-Some.order (cc))
+    rw (c.counted-counts.ensures, c.obey-a.ensures.answer, c.obey-a.ensures.machine, c.width-at.ensures) (going_order c.loop-order.invariant c.in-Ok-Some.order (cc))
 
 pub returns-in-Ok-None : goal.returns-in-Ok-None
 returns-in-Ok-None c = c.ends.ensures ∙ over_whole c.loop-order.invariant (cc)
