@@ -102,9 +102,9 @@ by_row_same f g buckets e b = record {
 -- ---- who has written a row: those who have written the row below, and those whose lowest row it is
 
 -- nobody has written row 0
-pub writers_none : (low : List ℕ) → LowestRows low → writers_of low 0 ≡ 0
+pub writers_none : (low : List ℕ) → ((k : ℕ) → k < 32 → 1 ≤ get_or low k 0) → writers_of low 0 ≡ 0
 writers_none low p =
-    set_of_ext (λ i. leb (get_or low (i - 1) 0) 0) (λ i. false) 32 (λ i l u. lt-leb (get_or low (i - 1) 0) 0 (p (i - 1) (omega arith)).0) ∙ set_of-none 32
+    set_of_ext (λ i. leb (get_or low (i - 1) 0) 0) (λ i. false) 32 (λ i l u. lt-leb (get_or low (i - 1) 0) 0 (p (i - 1) (omega arith))) ∙ set_of-none 32
 
 up_to_next : (l x : ℕ) → (leb l x || eqb l (x + 1)) ≡ leb l (x + 1)
 up_to_next l x =
