@@ -4,7 +4,7 @@ use mathlib.Core.Bool.{Bool, true, false, ◌&&◌, cond}
 use Prim.Native.Nat.{ℕ, ◌+◌, ◌-◌, ◌≤◌}
 use native.Mathlib.Omega.{arith}
 use lib.Dec.{leb, ltb, eqb}
-use borrow.Author.Tests.{leb-true}
+use borrow.Author.Tests.{leb-true, eqb-true}
 use Rattle.std.specs.Prelude.{Result, Ok, Err}
 use Rattle.sets.specs.Members.{size}
 use Rattle.rules.specs.declared.Stage.{Stage}
@@ -87,12 +87,14 @@ pub record InPlace (p : ℕ) (r : Runner) : Type 0 where
   pub low : 1 ≤ r.level
   pub high : r.level ≤ 32
 
-pub in_place : (m : Machine) (p : ℕ) (r : Runner) → Ok r ≡ runner_of m p → InPlace p r
-in_place m p r e =
-    let R = runs m p r e in
+pub runs_in_place : (m : Machine) (p : ℕ) (r : Runner) → Runs m p r → InPlace p r
+runs_in_place m p r R =
     let s = standing m p R.valid (Running r.level r.made r.found) R.stage in
     let n = most m R.valid.shape in
     record { some = R.valid.low; most = omega (arith, R.valid.high, n); low = s.low; high = omega (arith, s.high, n) }
+
+pub in_place : (m : Machine) (p : ℕ) (r : Runner) → Ok r ≡ runner_of m p → InPlace p r
+in_place m p r e = runs_in_place m p r (runs m p r e)
 
 -- a call that refuses 4, 5 and 6 by the stage
 pub record Refuses (m : Machine) (at : Stage → Called) : Type 0 where
@@ -164,21 +166,36 @@ write_step m p r e = step_is_move m p ∙ ap (moved m p) (sym e)
 pub turn_step : (m : Machine) (p : ℕ) (P : Process) → Ok (Turn P) ≡ move_of m p → step_of m p ≡ done (with_process m p P)
 turn_step m p P e = step_is_move m p ∙ ap (moved m p) (sym e)
 
--- who writes is in place
-pub write_in_place : (m : Machine) (p : ℕ) (r : Runner) → Ok (Write r) ≡ move_of m p → InPlace p r
-write_in_place m p r = go (runner_of m p) refl
-  where
-    turns : (v : ℕ) (q : Result Stage Answer) → Ok (Write r) ≡ turn v q → ⊥
-    turns v (Ok s) e = cc
-    turns v (Err a) e = cc
+-- Who moves has passed the tests.
+module _ (m : Machine) (p : ℕ) where
+  -- rule 4: who writes runs, and has made no access at its level
+  pub write-runs : (r : Runner) → move_of m p ≡ Ok (Write r) → Runs m p r × (r.made ≡ 0)
+  write-runs r = go (runner_of m p) refl
+    where
+      turns : (v : ℕ) (q : Result Stage Answer) → turn v q ≡ Ok (Write r) → ⊥
+      turns v (Ok s) e = cc
+      turns v (Err a) e = cc
 
-    by : (s : Runner) (z : Bool) → Ok s ≡ runner_of m p
-        → Ok (Write r) ≡ cond z (Ok (Write s)) (turn s.value (after_read m.n (row_of m s.level) s)) → InPlace p r
-    by s true e q = let h : r ≡ s = cc in subst (InPlace p) (sym h) (in_place m p s e)
-    by s false e q = absurd (turns s.value (after_read m.n (row_of m s.level) s) q)
+      by : (s : Runner) (z : Bool) → eqb s.made 0 ≡ z → Ok s ≡ runner_of m p
+          → cond z (Ok (Write s)) (turn s.value (after_read m.n (row_of m s.level) s)) ≡ Ok (Write r) → Runs m p r × (r.made ≡ 0)
+      by s true z e q =
+          let h : s ≡ r = cc in
+          subst (λ (s : Runner). Runs m p s × (s.made ≡ 0)) h (runs m p s e, eqb-true s.made 0 z)
+      by s false z e q = absurd (turns s.value (after_read m.n (row_of m s.level) s) q)
 
-    go : (q : Result Runner Answer) → q ≡ runner_of m p → Ok (Write r) ≡ move_in m q → InPlace p r
-    go (Ok s) e q = by s (eqb s.made 0) e q
-    go (Err a) e q = cc
+      go : (q : Result Runner Answer) → q ≡ runner_of m p → move_in m q ≡ Ok (Write r) → Runs m p r × (r.made ≡ 0)
+      go (Ok s) e q = by s (eqb s.made 0) refl e q
+      go (Err a) e q = cc
+
+  pub turn_valid : (P : Process) → move_of m p ≡ Ok (Turn P) → Valid m p
+  turn_valid P = go (runner_of m p) refl
+    where
+      go : (q : Result Runner Answer) → q ≡ runner_of m p → move_in m q ≡ Ok (Turn P) → Valid m p
+      go (Ok s) e q = (runs m p s e).valid
+      go (Err a) e q = cc
+
+  -- who writes is in place
+  pub write_in_place : (r : Runner) → Ok (Write r) ≡ move_of m p → InPlace p r
+  write_in_place r e = runs_in_place m p r (write-runs r (sym e)).0
 
 pub ruleset step_laws = (refused_step, write_step, turn_step, write_in_place)
