@@ -84,7 +84,7 @@ stage_and_view Running w values f = omega arith
 stage_and_view Finished w values f = omega (arith, pairs_length false w values 1 32 (omega arith) f)
 stage_and_view Crashed w values f = omega arith
 
-pub sight_length : (i : ℕ) (s : Sight) → i ≤ 32 → s.level < 2 ^ 32 → s.accesses < 2 ^ 32 → ((j : ℕ) → get_or s.values j 0 < 2 ^ 32)
+pub sight_length : (i : ℕ) (s : Sight) → i < 100 → s.level < 2 ^ 32 → s.accesses < 2 ^ 32 → ((j : ℕ) → get_or s.values j 0 < 2 ^ 32)
     → length (sight_line i s) ≤ 485
 unfolding sight_line
 sight_length i s h x k f =
