@@ -16,7 +16,7 @@ use formats::{FileAnswer, Order};
 use replays::{Counts, Replayed, WriteAnswer, Written};
 use rules::{Answer, Machine, Stage};
 
-// The calls of the machine on a state that is lent. A function each: with the three in one match the state that they hand back was copied once more an order.
+// The calls of the machine on a state that is lent. A function each: with the three in one match the state that they hand back is copied once more an order.
 fn enter(m: &mut Machine, p: u32, v: u32) -> Answer
     ensures answer { result ≡ (enter_of m.old p v).answer }
     ensures machine { m.new ≡ (enter_of m.old p v).machine }
