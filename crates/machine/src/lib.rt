@@ -91,8 +91,8 @@ pub fn crash(mut m: Machine, p: u32) -> Called
     Called { machine: m, answer }
 }
 
-// One register access of process p (rules 4 and 5); refuses 1, 2, 4, 5, 6, 7. One way out, which costs a copy of the state less; inlined, since a caller of a
-// function that stays one clears the state that it is to get back first.
+// One register access of process p (rules 4 and 5); refuses 1, 2, 4, 5, 6, 7. One way out, which costs a copy of the state less; inlined, since for a call
+// that stays one the compiler first clears the place of its result.
 #[tactic(auto, using(moves::proofs::Laws::step_laws))]
 #[inline(always)]
 pub fn step(mut m: Machine, p: u32) -> Called
